@@ -1,0 +1,36 @@
+-- Laws of a number's bits: one bit lower is the bit of the half, and a number whose bits are all 0 is 0.
+use Prim.Native.Nat.{ℕ, zero, suc, _+_, _*_, _/_, _%_, _^_, _≤_, _<_}
+use mathlib.Core.Path.{_≡_, refl, sym, ap, _∙_}
+use mathlib.Core.Bool.{Bool, true, false}
+use native.Mathlib.Nat.{pow-suc, mul-comm, div-div-eq-div-mul, div-one, zero-div, le-div-iff-mul-le}
+use native.Mathlib.Omega.{arith}
+use lib.Dec.{eqb}
+use lib.Pow.{pow-pos}
+use borrow.Author.Tests.{eqb-true, eqb-false}
+use Rattle.lists.specs.Bits.{bit}
+
+pub bit-zero : (x : ℕ) → bit 0 x ≡ eqb (x % 2) 1
+unfolding bit
+bit-zero x = let e : x / 1 ≡ x = div-one x in rw e
+
+pub bit-suc : (k x : ℕ) → bit (suc k) x ≡ bit k (x / 2)
+unfolding bit
+bit-suc k x = rw (pow-suc 2 k, mul-comm (2 ^ k) 2, div-div-eq-div-mul x 2 (2 ^ k))
+
+pub bit-of-zero : (k : ℕ) → bit k 0 ≡ false
+unfolding bit
+bit-of-zero k = rw zero-div
+
+-- a bit that is 1 is worth its value
+pub bit-there : (k x : ℕ) → bit k x ≡ true → 2 ^ k ≤ x
+unfolding bit
+bit-there k x h =
+    let one : 1 ≤ x / 2 ^ k = omega (arith, eqb-true (x / 2 ^ k % 2) 1 h) in
+    omega (arith, le-div-iff-mul-le {x = 1} {y = x} (pow-pos k) .0 one)
+
+pub bits-none : (n x : ℕ) → x < 2 ^ n → ((k : ℕ) → k < n → bit k x ≡ false) → x ≡ 0
+bits-none zero x l h = omega arith
+bits-none (suc n) x l h =
+    let low : (x % 2 ≡ 1 → ⊥) = eqb-false (x % 2) 1 (sym (bit-zero x) ∙ h 0 (omega arith)) in
+    let half : x / 2 ≡ 0 = bits-none n (x / 2) (omega (arith, pow-suc 2 n)) (λ k b. sym (bit-suc k x) ∙ h (suc k) (omega arith)) in
+    omega (arith, low)

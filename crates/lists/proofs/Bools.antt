@@ -1,0 +1,53 @@
+-- Tests taken apart and put together, and congruences for `search same`: a result that is made of callees' results is the definition
+-- made of theirs, so that a straight-line function over calls is proved with no path into `c`.
+use Prim.Native.Nat.{ℕ}
+use mathlib.Core.Path.{_≡_, refl, ap, _∙_, sym}
+use mathlib.Core.Bool.{Bool, true, false, cond, not, _&&_, _||_, and-eq-true-iff}
+use lib.Dec.{T, eqb, ltb, leb}
+
+-- ---- tests
+
+pub both : (a b : Bool) → (a && b) ≡ true → (a ≡ true) × (b ≡ true)
+both a b h = and-eq-true-iff a b .0 h
+
+pub and : {a b : Bool} → a ≡ true → b ≡ true → (a && b) ≡ true
+and p q = rw (p, q)
+
+pub passes : (b : Bool) → T b → b ≡ true
+passes true t = refl
+passes false t = absurd t
+
+-- two tests agree where each passes if the other does
+pub agree : (a b : Bool) → (a ≡ true → b ≡ true) → (b ≡ true → a ≡ true) → a ≡ b
+agree true b f g = sym (f refl)
+agree false true f g = g refl
+agree false false f g = refl
+
+-- what a callee's result is by its contract, it is by the branch: for `search`, with a call's `.ensures` and a test's fact in reach
+pub via : {A : Type 0} {x y z : A} → x ≡ y → x ≡ z → y ≡ z
+via p q = sym p ∙ q
+
+-- ---- congruences
+
+pub and-same : {a b a′ b′ : Bool} → a ≡ a′ → b ≡ b′ → (a && b) ≡ (a′ && b′)
+and-same p q = rw (p, q)
+
+pub or-same : {a b a′ b′ : Bool} → a ≡ a′ → b ≡ b′ → (a || b) ≡ (a′ || b′)
+or-same p q = rw (p, q)
+
+pub not-same : {a a′ : Bool} → a ≡ a′ → not a ≡ not a′
+not-same p = ap not p
+
+pub ltb-same : {m n m′ n′ : ℕ} → m ≡ m′ → n ≡ n′ → ltb m n ≡ ltb m′ n′
+ltb-same p q = rw (p, q)
+
+pub eqb-same : {m n m′ n′ : ℕ} → m ≡ m′ → n ≡ n′ → eqb m n ≡ eqb m′ n′
+eqb-same p q = rw (p, q)
+
+pub leb-same : {m n m′ n′ : ℕ} → m ≡ m′ → n ≡ n′ → leb m n ≡ leb m′ n′
+leb-same p q = rw (p, q)
+
+pub cond-same : {A : Type 0} {a a′ : Bool} {x y x′ y′ : A} → a ≡ a′ → x ≡ x′ → y ≡ y′ → cond a x y ≡ cond a′ x′ y′
+cond-same p q r = rw (p, q, r)
+
+pub ruleset same = (and-same, or-same, not-same, ltb-same, eqb-same, leb-same, cond-same)

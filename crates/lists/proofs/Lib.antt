@@ -1,0 +1,10 @@
+pub mod Bools
+pub mod Lists
+pub mod Loops
+pub mod Tables
+pub mod Numbers
+pub mod Bits
+pub mod Edits
+pub mod Keeps
+pub mod Zips
+pub mod Buffers

@@ -1,0 +1,113 @@
+-- Invariants of a loop that walks a list of n elements from the front, one for each definition of `Lists`. Each is a record whose
+-- parameters say all that a law needs: a proof hands over the invariant, the loop's test and the branch's fact, and nothing else.
+--     -start   before the first turn        -turn    one turn on
+--     -found   where the loop returns early -ended   after the loop
+use Prim.Native.Nat.{ℕ, _+_, _<_, _≤_}
+use mathlib.Core.Path.{_≡_, refl, _∙_, sym}
+use mathlib.Core.Bool.{Bool, true, false}
+use mathlib.Core.List.{List}
+use native.Mathlib.Omega.{arith}
+use lib.ListN.{length, getD, drop}
+use Rattle.lists.specs.Lists.{any, all, pairwise, count, find}
+use Rattle.lists.proofs.Lists.{any-here, any-next, any-end, all-here, all-next, all-end, count-here, count-next, count-end, find-here, find-next, find-end, pairwise-here, pairwise-next, pairwise-end}
+
+module _ {A : Type 0} where
+  -- no element before i passed: any p l is any p of what is left
+  pub record Any (p : A → Bool) (l : List A) (d : A) (n i : ℕ) : Type 0 where
+    pub len : length l ≡ n
+    pub inside : i ≤ n
+    pub same : any p l ≡ any p (drop i l)
+
+  -- w is all p of what is left: of l, or of a part of l from some place on, if every element before i passed
+  pub record All (p : A → Bool) (l : List A) (d : A) (w : Bool) (n i : ℕ) : Type 0 where
+    pub len : length l ≡ n
+    pub inside : i ≤ n
+    pub same : w ≡ all p (drop i l)
+
+  -- every element before i stands in r to every later one
+  pub record Pairs (r : A → A → Bool) (l : List A) (d : A) (n i : ℕ) : Type 0 where
+    pub len : length l ≡ n
+    pub inside : i ≤ n
+    pub same : pairwise r l ≡ pairwise r (drop i l)
+
+  -- k elements before i passed
+  pub record Count (p : A → Bool) (l : List A) (d : A) (n i k : ℕ) : Type 0 where
+    pub len : length l ≡ n
+    pub inside : i ≤ n
+    pub few : k ≤ i
+    pub same : count p l ≡ k + count p (drop i l)
+
+  -- none before i passed
+  pub record Find (p : A → Bool) (l : List A) (d : A) (n i : ℕ) : Type 0 where
+    pub len : length l ≡ n
+    pub inside : i ≤ n
+    pub same : find p l ≡ i + find p (drop i l)
+
+  module _ {p : A → Bool} {l : List A} {d : A} {n : ℕ} where
+    pub any-start : length l ≡ n → Any p l d n 0
+    any-start e = record { len = e; inside = omega arith; same = refl }
+
+    pub all-start : length l ≡ n → All p l d (all p l) n 0
+    all-start e = record { len = e; inside = omega arith; same = refl }
+
+    pub all-start-at : (i : ℕ) → i ≤ n → length l ≡ n → All p l d (all p (drop i l)) n i
+    all-start-at i h e = record { len = e; inside = h; same = refl }
+
+    pub count-start : length l ≡ n → Count p l d n 0 0
+    count-start e = record { len = e; inside = omega arith; few = omega arith; same = omega arith }
+
+    pub find-start : length l ≡ n → Find p l d n 0
+    find-start e = record { len = e; inside = omega arith; same = omega arith }
+
+  module _ {p : A → Bool} {l : List A} {d : A} {n i : ℕ} where
+    pub any-turn : Any p l d n i → i < n → p (getD l i d) ≡ false → Any p l d n (i + 1)
+    any-turn v b e = record { len = v .len; inside = omega arith; same = v .same ∙ any-next p l i d (omega arith) e }
+
+    pub any-found : Any p l d n i → i < n → p (getD l i d) ≡ true → true ≡ any p l
+    any-found v b e = sym (v .same ∙ any-here p l i d (omega arith) e)
+
+    pub any-ended : Any p l d n i → n ≤ i → false ≡ any p l
+    any-ended v b = sym (v .same ∙ any-end p l i (omega arith))
+
+    pub find-turn : Find p l d n i → i < n → p (getD l i d) ≡ false → Find p l d n (i + 1)
+    find-turn v b e = record { len = v .len; inside = omega arith; same = omega (arith, v .same, find-next p l i d (omega arith) e) }
+
+    pub find-found : Find p l d n i → i < n → p (getD l i d) ≡ true → i ≡ find p l
+    find-found v b e = omega (arith, v .same, find-here p l i d (omega arith) e)
+
+    pub find-ended : Find p l d n i → n ≤ i → n ≡ find p l
+    find-ended v b = omega (arith, v .same, find-end p l i (omega arith))
+
+  module _ {p : A → Bool} {l : List A} {d : A} {n i k : ℕ} where
+    pub count-turn : Count p l d n i k → i < n → p (getD l i d) ≡ true → Count p l d n (i + 1) (k + 1)
+    count-turn v b e = record { len = v .len; inside = omega arith; few = omega arith; same = omega (arith, v .same, count-here p l i d (omega arith) e) }
+
+    pub count-skip : Count p l d n i k → i < n → p (getD l i d) ≡ false → Count p l d n (i + 1) k
+    count-skip v b e = record { len = v .len; inside = omega arith; few = omega arith; same = omega (arith, v .same, count-next p l i d (omega arith) e) }
+
+    pub count-ended : Count p l d n i k → n ≤ i → k ≡ count p l
+    count-ended v b = omega (arith, v .same, count-end p l i (omega arith))
+
+  module _ {p : A → Bool} {l : List A} {d : A} {w : Bool} {n i : ℕ} where
+    pub all-turn : All p l d w n i → i < n → p (getD l i d) ≡ true → All p l d w n (i + 1)
+    all-turn v b e = record { len = v .len; inside = omega arith; same = v .same ∙ all-next p l i d (omega arith) e }
+
+    pub all-found : All p l d w n i → i < n → p (getD l i d) ≡ false → false ≡ w
+    all-found v b e = sym (v .same ∙ all-here p l i d (omega arith) e)
+
+    pub all-ended : All p l d w n i → n ≤ i → true ≡ w
+    all-ended v b = sym (v .same ∙ all-end p l i (omega arith))
+
+  module _ {r : A → A → Bool} {l : List A} {d : A} {n : ℕ} where
+    pub pairs-start : length l ≡ n → Pairs r l d n 0
+    pairs-start e = record { len = e; inside = omega arith; same = refl }
+
+  module _ {r : A → A → Bool} {l : List A} {d : A} {n i : ℕ} where
+    pub pairs-turn : Pairs r l d n i → i < n → all (r (getD l i d)) (drop (i + 1) l) ≡ true → Pairs r l d n (i + 1)
+    pairs-turn v b e = record { len = v .len; inside = omega arith; same = v .same ∙ pairwise-next r l i d (omega arith) e }
+
+    pub pairs-found : Pairs r l d n i → i < n → all (r (getD l i d)) (drop (i + 1) l) ≡ false → false ≡ pairwise r l
+    pairs-found v b e = sym (v .same ∙ pairwise-here r l i d (omega arith) e)
+
+    pub pairs-ended : Pairs r l d n i → n ≤ i → true ≡ pairwise r l
+    pairs-ended v b = sym (v .same ∙ pairwise-end r l i (omega arith))

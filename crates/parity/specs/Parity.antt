@@ -1,0 +1,26 @@
+-- Odd parity over a number of bits. The library's `onesIn n x` is the count of ones among the lowest n bits of x.
+use mathlib.Core.Bool.{Bool, cond}
+use Prim.Native.Nat.{ℕ, _+_, _-_, _%_, _^_}
+use lib.Count.{onesIn}
+use lib.Dec.{eqb, ltb}
+use Rattle.lists.specs.Bits.{bit}
+
+-- 1 where the count of ones among n bits is odd, 0 where it is even
+unfoldable pub odd : ℕ → ℕ → ℕ
+odd n x = onesIn n x % 2
+
+-- the bit that makes the count of ones, its own included, odd
+unfoldable pub oddBit : ℕ → ℕ → ℕ
+oddBit n x = 1 - odd n x
+
+-- whether a byte's count of ones is odd
+abbrev pub oddOnes : ℕ → Bool
+oddOnes byte = eqb (odd 8 byte) 1
+
+-- x with its bit k the other way: what the bit is worth less where it was 1, more where it was 0
+unfoldable pub flip : ℕ → ℕ → ℕ
+flip k x = cond (bit k x) (x - 2 ^ k) (x + 2 ^ k)
+
+-- a byte after a flip: 0 to 7 for the bit of value 2 to that power, 8 for none
+abbrev pub flipped : ℕ → ℕ → ℕ
+flipped byte k = cond (ltb k 8) (flip k byte) byte

@@ -1,0 +1,30 @@
+-- The paper's numbers, each list as one statement.
+use Prim.Native.Nat.{ℕ}
+use mathlib.Core.Path.{_≡_, refl}
+use mathlib.Core.Bool.{Bool, true, false, not, Bool·beq}
+use mathlib.Core.List.{List, [], _∷_, map}
+use lib.Dec.{eqb}
+use lib.ListN.{replicate}
+use Rattle.lists.specs.Lists.{count}
+use Rattle.lists.specs.Numbers.{numbers}
+use Rattle.lists.specs.Bits.{bit}
+use Rattle.slots.specs.Slots.{classOf, allows, facts, isLegacy, isOpen}
+
+-- 3Eh barred, 3Fh open; with flags 1: 07h closed, 08h open
+pub starred : (classOf 0x3E ≡ 1) × (map (isOpen (facts 1 (replicate 16 0) 0)) (0x3E ∷ 0x3F ∷ 0x07 ∷ 0x08 ∷ []) ≡ (false ∷ true ∷ false ∷ true ∷ []))
+unfolding classOf isOpen allows isLegacy bit
+starred = (refl, refl)
+
+-- 108 addresses are of the class open
+pub open-108 : count (λ a. eqb (classOf a) 4) (numbers 0x00 128) ≡ 108
+unfolding classOf numbers
+open-108 = refl
+
+-- in how many of their seven bits two addresses differ
+abbrev differing : ℕ → ℕ → ℕ
+differing a b = count (λ k. not (Bool·beq (bit k a) (bit k b))) (numbers 0 7)
+
+-- class 1 has exactly the addresses that differ from 7Eh in one bit
+pub one-bit-away : map (λ a. eqb (classOf a) 1) (numbers 0x00 128) ≡ map (λ a. eqb (differing a 0x7E) 1) (numbers 0x00 128)
+unfolding classOf numbers bit
+one-bit-away = refl

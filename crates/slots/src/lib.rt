@@ -1,0 +1,159 @@
+// The 128 address slots, the bus facts, and the slot test.
+ghost use mathlib.Core.Path.{_≡_};
+ghost use lib.ListN.{length};
+ghost use Rattle.slots.specs.Slots.{classOf, facts, noFacts, checked, isLegacy, legacyRight, factsRight, isOpen, slotTest};
+ghost use Rattle.slots.specs.Slots.{allows as Slots·allows};
+
+mod classes;
+
+use classes::CLASS;
+
+// What is known of a bus: the flag byte (1: an I2C high-speed device is present; 2: 03h may be used), the set of legacy I2C addresses (address a
+// is bit a % 8 of byte a / 8), and the last ticket given.
+pub struct Facts {
+    pub flags: u8,
+    pub legacy: [u8; 16],
+    pub last: u32,
+}
+
+// Facts that keep the rules, or the facts of a refused start.
+pub struct Checked {
+    pub right: bool,
+    pub facts: Facts,
+}
+
+// What the slot test says: refusal 0, and whether the address is open; or a refusal.
+pub struct SlotAnswer {
+    pub refusal: u8,
+    pub open: bool,
+}
+
+// The class of an address, and 7 above 7Fh.
+pub fn class_of(address: u8) -> u8
+    ensures { λ r. ⌜ r ≡ classOf address ⌝ }
+{
+    if address < 128 {
+        CLASS[address as usize]
+    } else {
+        7
+    }
+}
+
+// Whether an address of this class may be used with these flags.
+fn allows(flags: u8, class: u8) -> bool
+    ensures { λ r. ⌜ r ≡ Slots·allows flags class ⌝ }
+{
+    (class == 4) | ((class == 2) & (flags / 2 % 2 == 1)) | ((class == 3) & (flags % 2 != 1))
+}
+
+// Whether an address is in the legacy set.
+pub fn is_legacy(legacy: [u8; 16], address: u8) -> bool
+    ensures { λ r. ⌜ r ≡ isLegacy legacy address ⌝ }
+{
+    if address < 128 {
+        let byte = legacy[(address / 8) as usize];
+        (byte >> (address % 8)) % 2 == 1
+    } else {
+        false
+    }
+}
+
+// Whether a set has legacy addresses from 08h to 77h only: none below, in byte 0, and none above, in byte 15.
+fn legacy_right(legacy: [u8; 16]) -> bool
+    ensures { λ r. ⌜ r ≡ legacyRight legacy ⌝ }
+{
+    (legacy[0] == 0) & (legacy[15] == 0)
+}
+
+// Whether facts keep the rules. Every 32-bit number is a right last ticket.
+pub fn facts_right(f: Facts) -> bool
+    ensures { λ r. ⌜ r ≡ factsRight f ⌝ }
+{
+    let legacy = f.legacy;
+    (f.flags / 4 == 0) & legacy_right(legacy) & (f.last <= 4294967295)
+}
+
+// Whether an address is open.
+pub fn is_open(f: Facts, address: u8) -> bool
+    ensures { λ r. ⌜ r ≡ isOpen f address ⌝ }
+{
+    let legacy = f.legacy;
+    allows(f.flags, class_of(address)) & !is_legacy(legacy, address)
+}
+
+// The sixteen bytes of a legacy set.
+fn sixteen(legacy: &[u8]) -> [u8; 16]
+    requires { ⌜ length (now legacy) ≡ 16 ⌝ }
+    ensures { λ r. ⌜ r ≡ now (legacy .entry) ⌝ }
+{
+    let mut bytes = [0u8; 16];
+    let mut i: usize = 0;
+    while i < 16 {
+        bytes[i] = legacy[i];
+        i += 1;
+    }
+    bytes
+}
+
+// The facts of a refused start: flags 0, no legacy, no ticket left.
+fn no_facts() -> Facts
+    ensures { λ r. ⌜ r ≡ noFacts ⌝ }
+{
+    Facts {
+        flags: 0,
+        legacy: [0; 16],
+        last: 4294967295,
+    }
+}
+
+// Facts from numbers and a legacy set of any length, if they keep the rules.
+pub fn checked_facts(flags: u8, legacy: &[u8], last: u32) -> Checked
+    ensures { λ r. ⌜ r ≡ checked (facts flags (now (legacy .entry)) last) ⌝ }
+{
+    if legacy.len() != 16 {
+        return Checked {
+            right: false,
+            facts: no_facts(),
+        };
+    }
+    let given = Facts {
+        flags,
+        legacy: sixteen(legacy),
+        last,
+    };
+    if facts_right(given) {
+        Checked {
+            right: true,
+            facts: given,
+        }
+    } else {
+        Checked {
+            right: false,
+            facts: no_facts(),
+        }
+    }
+}
+
+// The slot test: whether an address is open. Refusal 1: the facts break a rule, or the legacy set is not 16 bytes; then 2: the address is over 127.
+pub fn slot_test(flags: u8, legacy: &[u8], last: u32, address: u8) -> SlotAnswer
+    ensures { λ r. ⌜ r ≡ slotTest (facts flags (now (legacy .entry)) last) address ⌝ }
+{
+    let checked = checked_facts(flags, legacy, last);
+    let facts = checked.facts;
+    if !checked.right {
+        return SlotAnswer {
+            refusal: 1,
+            open: false,
+        };
+    }
+    if 127 < address {
+        return SlotAnswer {
+            refusal: 2,
+            open: false,
+        };
+    }
+    SlotAnswer {
+        refusal: 0,
+        open: is_open(facts, address),
+    }
+}
