@@ -5,4 +5,4 @@ use lib.Dec.{eqb}
 
 -- whether bit k of x is 1
 unfoldable pub bit : ℕ → ℕ → Bool
-bit k x = eqb (x / 2 ^ k % 2) 1
+bit k x = eqb ((x / 2 ^ k) % 2) 1

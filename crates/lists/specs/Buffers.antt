@@ -1,4 +1,4 @@
--- What is written into a buffer; what lies before and behind it stays.
+-- What is written into a buffer that has room for it; what lies before and behind it stays.
 use mathlib.Core.List.{List, _++_}
 use Prim.Native.Nat.{ℕ}
 use lib.ListN.{length, take, drop}

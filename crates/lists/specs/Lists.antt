@@ -29,12 +29,12 @@ module _ {A : Type 0} where
   find p [] = 0
   find p (x ∷ xs) = cond (p x) 0 (suc (find p xs))
 
-  -- x put in before the first element that passes the test, or at the end
+  -- x put in before the first element that passes the test, or at the end: one element more
   abbrev pub insertBy : (A → Bool) → A → List A → List A
   insertBy p x [] = x ∷ []
   insertBy p x (y ∷ ys) = cond (p y) (x ∷ y ∷ ys) (y ∷ insertBy p x ys)
 
-  -- the first element that passes the test taken out, and z put at the end in its stead
+  -- the first element that passes the test taken out, and z put at the end in its stead: as many elements; as it was if none passes
   abbrev pub deleteBy : (A → Bool) → A → List A → List A
   deleteBy p z [] = []
   deleteBy p z (y ∷ ys) = cond (p y) (ys ++ (z ∷ [])) (y ∷ deleteBy p z ys)

@@ -18,7 +18,7 @@ within a b n = leb a n && leb n b
 abbrev pub oneOf : List ℕ → ℕ → Bool
 oneOf l n = any (eqb n) l
 
--- the first of the k numbers from a on that passes the test, or 0
+-- the first of the k numbers from a on that passes the test, and 0 if none does: for tests that 0 does not pass
 unfoldable pub first : (ℕ → Bool) → ℕ → ℕ → ℕ
 first p a zero = 0
 first p a (suc k) = cond (p a) a (first p (suc a) k)

@@ -11,7 +11,7 @@ use lib.Pow.{shl-exact, field, mod-mod-pow}
 use borrow.Author.Tests.{eqb-true, eqb-false, eq-eqb, ne-eqb}
 use Rattle.lists.specs.Bits.{bit}
 use Rattle.lists.proofs.Bits.{bit-zero, bit-suc, bit-there}
-use Rattle.parity.specs.Parity.{odd, oddBit, oddOnes, flip}
+use Rattle.parity.specs.Parity.{parity, oddBit, oddOnes, flip}
 use Rattle.parity.specs.Cells.{writeByte, offeredByte}
 
 -- ---- counting
@@ -27,18 +27,18 @@ unfolding onesIn
 ones-none zero x h = refl
 ones-none (suc n) x h = absurd (not-suc-le-zero h)
 
-pub odd-lt : (n x : ℕ) → odd n x < 2
-unfolding odd
-odd-lt n x = omega arith
+pub parity-lt : (n x : ℕ) → parity n x < 2
+unfolding parity
+parity-lt n x = omega arith
 
 pub odd-bit-lt : (n x : ℕ) → oddBit n x < 2
 unfolding oddBit
 odd-bit-lt n x = omega arith
 
 -- the odd bit is 0 just where the count is odd already
-pub odd-bit-zero : (n x : ℕ) → eqb (oddBit n x) 0 ≡ eqb (odd n x) 1
+pub odd-bit-zero : (n x : ℕ) → eqb (oddBit n x) 0 ≡ eqb (parity n x) 1
 unfolding oddBit
-odd-bit-zero n x = go (odd n x) (odd-lt n x)
+odd-bit-zero n x = go (parity n x) (parity-lt n x)
   where
     go : (o : ℕ) → o < 2 → eqb (1 - o) 0 ≡ eqb o 1
     go zero h = refl
@@ -48,13 +48,13 @@ odd-bit-zero n x = go (odd n x) (odd-lt n x)
 -- ---- the odd bit
 
 -- a number above its own odd bit has an odd count of ones
-pub odd-with-bit : (n x : ℕ) → odd (suc n) (x * 2 + oddBit n x) ≡ 1
-unfolding odd oddBit onesIn
+pub odd-with-bit : (n x : ℕ) → parity (suc n) (x * 2 + oddBit n x) ≡ 1
+unfolding parity oddBit onesIn
 odd-with-bit n x = let half : (x * 2 + (1 - onesIn n x % 2)) / 2 ≡ x = omega arith in rw half (omega arith)
 
 -- and above no other bit
-pub odd-bit-only : (n x b : ℕ) → b < 2 → odd (suc n) (x * 2 + b) ≡ 1 → b ≡ oddBit n x
-unfolding odd oddBit onesIn
+pub odd-bit-only : (n x b : ℕ) → b < 2 → parity (suc n) (x * 2 + b) ≡ 1 → b ≡ oddBit n x
+unfolding parity oddBit onesIn
 odd-bit-only n x b h e = let half : (x * 2 + b) / 2 ≡ x = omega arith in omega (arith, rw half at e)
 
 -- ---- one flipped bit
@@ -78,8 +78,8 @@ flip-suc k x = rw (bit-suc, pow-suc 2 k) (go (bit k (x / 2)) (bit-there k (x / 2
     go false h = omega arith
 
 -- PARITY'S FACT: to flip one bit of n turns the parity of the n
-pub flip-turns : (n k x : ℕ) → k < n → odd n (flip k x) + odd n x ≡ 1
-unfolding odd onesIn
+pub flip-turns : (n k x : ℕ) → k < n → parity n (flip k x) + parity n x ≡ 1
+unfolding parity onesIn
 flip-turns zero k x h = absurd (not-suc-le-zero h)
 flip-turns (suc n) zero x h = rw (flip-low x .1) (omega (arith, flip-low x .0))
 flip-turns (suc n) (suc k) x h = rw (flip-suc k x .0, flip-suc k x .1) (omega (arith, flip-turns n k (x / 2) (le-of-suc-le-suc h)))
@@ -107,32 +107,20 @@ worth k h = shl-exact {a = 1} 1 k 8 (lit< tt) (omega arith) ∙ one-mul (2 ^ k)
 
 -- ---- an offer
 
--- the lowest n bits are all that is counted
-ones-low : (n x : ℕ) → onesIn n (x % 2 ^ n) ≡ onesIn n x
-unfolding onesIn
-ones-low zero x = refl
-ones-low (suc n) x =
-    let low : x % 2 ^ suc n % 2 ≡ x % 2 = rw (← add-one n) (mod-mod-pow x n 1) in
-    let half : x % 2 ^ suc n / 2 ≡ x / 2 % 2 ^ n = rw (← add-one n) (field x n 1) in
-    rw (low, half, ones-low n (x / 2))
-
-odd-bit-low : (n x : ℕ) → oddBit n (x % 2 ^ n) ≡ oddBit n x
-unfolding oddBit odd
-odd-bit-low n x = rw ones-low
-
--- and the 0 below a header or a new address counts for nothing: one ninth bit serves commands, data and offered bytes
-pub odd-bit-above : (n x : ℕ) → oddBit (suc n) (x * 2) ≡ oddBit n x
-unfolding oddBit odd onesIn
+-- a 0 below counts for nothing, so one ninth bit serves commands, data and offered bytes
+odd-bit-above : (n x : ℕ) → oddBit (suc n) (x * 2 + 0) ≡ oddBit n x
+unfolding oddBit parity onesIn
 odd-bit-above n x =
-    let low : x * 2 % 2 ≡ 0 = omega arith in
-    let half : x * 2 / 2 ≡ x = omega arith in
+    let low : (x * 2 + 0) % 2 ≡ 0 = omega arith in
+    let half : (x * 2 + 0) / 2 ≡ x = omega arith in
     rw (low, half) (omega arith)
 
-pub own-bit : (a : ℕ) → writeByte a + oddBit 8 (writeByte a) ≡ offeredByte a
-own-bit a = rw (add-zero, odd-bit-above 7 (a % 128), odd-bit-low 7 a)
+offer-odd : (a : ℕ) → parity 8 (offeredByte a) ≡ 1
+offer-odd a = rw (odd-bit-above 7 (a % 128)) (odd-with-bit 7 (a % 128))
 
-offer-odd : (a : ℕ) → odd 8 (offeredByte a) ≡ 1
-offer-odd a = rw (odd-bit-low 7 a) at (odd-with-bit 7 (a % 128))
+-- the bit of an offered byte is the one over the seven bits of the address
+pub offered-bit : (a : ℕ) → a < 128 → offeredByte a ≡ a * 2 + oddBit 7 a
+offered-bit a h = let e : a % 128 ≡ a = mod-eq-of-lt h in rw (e, odd-bit-above 7 a)
 
 -- an offered byte is taken as it was sent
 pub offer-taken : (a : ℕ) → oddOnes (offeredByte a) ≡ true
@@ -140,8 +128,8 @@ offer-taken a = eq-eqb _ _ (offer-odd a)
 
 -- and refused with any one bit flipped
 pub offer-refused : (k a : ℕ) → k < 8 → oddOnes (flip k (offeredByte a)) ≡ false
-offer-refused k a h = ne-eqb _ _ (λ (e : odd 8 (flip k (offeredByte a)) ≡ 1). omega (arith, flip-turns 8 k (offeredByte a) h, offer-odd a))
+offer-refused k a h = ne-eqb _ _ (λ (e : parity 8 (flip k (offeredByte a)) ≡ 1). omega (arith, flip-turns 8 k (offeredByte a) h, offer-odd a))
 
 -- the address that it offers
 pub offered-address : (a : ℕ) → a < 128 → offeredByte a / 2 ≡ a
-offered-address a h = let e : a % 128 ≡ a = mod-eq-of-lt h in rw e (omega (arith, odd-bit-lt 7 a))
+offered-address a h = rw (offered-bit a h) (omega (arith, odd-bit-lt 7 a))

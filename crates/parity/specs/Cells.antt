@@ -1,10 +1,14 @@
--- Cells of the record: 16-bit numbers, one for each byte on the bus and for START, repeated START and STOP.
+-- Cells of the record: 16-bit numbers, one for each byte on the bus, for START, repeated START and STOP.
 use mathlib.Core.Bool.{Bool, true, false, cond}
 use mathlib.Core.List.{List, [], _∷_}
 use Prim.Native.Nat.{ℕ, _+_, _*_, _%_}
+use lib.Dec.{ltb}
+use Rattle.lists.specs.Numbers.{within}
 use Rattle.parity.specs.Parity.{oddBit}
 
--- nine clocks: byte times 2 plus the ninth bit
+-- ---- a byte and its ninth bit
+
+-- byte times 2 plus the ninth bit
 abbrev pub cell : ℕ → ℕ → ℕ
 cell byte ninth = byte * 2 + ninth
 
@@ -16,42 +20,84 @@ dataCell byte = cell byte (oddBit 8 byte)
 abbrev pub answerCell : ℕ → Bool → ℕ
 answerCell byte answered = cell byte (cond answered 0 1)
 
--- an identity byte: 1024 plus the byte, without a ninth bit
+-- an identity byte: 1024 plus the byte, no ninth bit
 abbrev pub identityCell : ℕ → ℕ
 identityCell byte = 1024 + byte
 
--- an address is seven bits, and stands in a byte above one bit more
-abbrev pub addressByte : ℕ → ℕ → ℕ
-addressByte address below = address % 128 * 2 + below
+-- nine clocks for a byte and its ninth bit, eight for an identity byte, none for START, repeated START, STOP and numbers that are no cell
+abbrev pub clocks : ℕ → ℕ
+clocks c = cond (ltb c 512) 9 (cond (within 1024 1279 c) 8 0)
 
--- the header that writes to an address, and a new address sent as data: a 0 stands below; the header that reads has a 1
+-- ---- an address in a byte
+
+-- address times 2 plus the bit below it; an address is seven bits, and of a number over 127 only the lowest seven count
+abbrev pub addressByte : ℕ → ℕ → ℕ
+addressByte address below = (address % 128) * 2 + below
+
+-- a 0 below: the header that writes to an address, and a new address as data
 abbrev pub writeByte : ℕ → ℕ
 writeByte address = addressByte address 0
 
+-- a 1 below: the header that reads
 abbrev pub readByte : ℕ → ℕ
 readByte address = addressByte address 1
 
--- an offered address byte: below the address stands the bit that makes the byte's own count of ones odd
+-- an offered address byte: address times 2 plus the bit that makes its own count of ones odd
 abbrev pub offeredByte : ℕ → ℕ
-offeredByte address = addressByte address (oddBit 7 address)
+offeredByte address = addressByte address (oddBit 8 (writeByte address))
 
--- the cells that have names, in the order of the constants in src/
+-- ---- cells with a name
+
+abbrev pub startCell : ℕ
+startCell = 512
+
+abbrev pub repeatedStartCell : ℕ
+repeatedStartCell = 513
+
+abbrev pub stopCell : ℕ
+stopCell = 514
+
+-- 7Eh/W, which any board answers
+abbrev pub broadcastWrite : Bool → ℕ
+broadcastWrite answered = answerCell (writeByte 0x7E) answered
+
+-- 7Eh/R, which boards without an address answer
+abbrev pub broadcastRead : Bool → ℕ
+broadcastRead answered = answerCell (readByte 0x7E) answered
+
+-- a board's request to join, 02h/W, which the controller answers
+abbrev pub hotJoin : Bool → ℕ
+hotJoin answered = answerCell (writeByte 0x02) answered
+
+abbrev pub assignCell : ℕ
+assignCell = dataCell 0x07
+
+abbrev pub resetAllCell : ℕ
+resetAllCell = dataCell 0x06
+
+abbrev pub setFromStaticCell : ℕ
+setFromStaticCell = dataCell 0x87
+
+abbrev pub moveCell : ℕ
+moveCell = dataCell 0x88
+
+-- silence joining (DISEC), allow joining (ENEC), and the data byte of both
+abbrev pub silenceCell : ℕ
+silenceCell = dataCell 0x01
+
+abbrev pub allowCell : ℕ
+allowCell = dataCell 0x00
+
+abbrev pub joiningCell : ℕ
+joiningCell = dataCell 0x08
+
+-- all of them: 512, 513, 514; 504, 505; 506, 507; 8, 9; 14, 13, 271, 273; 2, 1, 16
 unfoldable pub namedCells : List ℕ
 namedCells =
-    512  -- START
-    ∷ 513  -- repeated START
-    ∷ 514  -- STOP
-    ∷ answerCell (writeByte 0x7E) true  -- 7Eh/W answered
-    ∷ answerCell (writeByte 0x7E) false  -- 7Eh/W silent
-    ∷ answerCell (readByte 0x7E) true  -- 7Eh/R answered
-    ∷ answerCell (readByte 0x7E) false  -- 7Eh/R silent
-    ∷ answerCell (writeByte 0x02) true  -- Hot-Join answered
-    ∷ answerCell (writeByte 0x02) false  -- Hot-Join refused
-    ∷ dataCell 0x07  -- assign
-    ∷ dataCell 0x06  -- reset all
-    ∷ dataCell 0x87  -- set from static
-    ∷ dataCell 0x88  -- move
-    ∷ dataCell 0x01  -- silence
-    ∷ dataCell 0x00  -- allow
-    ∷ dataCell 0x08  -- the joining event, data of silence and allow
+    startCell ∷ repeatedStartCell ∷ stopCell
+    ∷ broadcastWrite true ∷ broadcastWrite false
+    ∷ broadcastRead true ∷ broadcastRead false
+    ∷ hotJoin true ∷ hotJoin false
+    ∷ assignCell ∷ resetAllCell ∷ setFromStaticCell ∷ moveCell
+    ∷ silenceCell ∷ allowCell ∷ joiningCell
     ∷ []

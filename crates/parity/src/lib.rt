@@ -6,6 +6,7 @@ ghost use Prim.Native.Nat.{_<_};
 ghost use Rattle.parity.specs.Parity.{oddBit, oddOnes};
 ghost use Rattle.parity.specs.Parity.{flip as Parity·flip, flipped as Parity·flipped};
 ghost use Rattle.parity.specs.Cells.{dataCell, answerCell, identityCell, writeByte, offeredByte, namedCells};
+ghost use Rattle.parity.specs.Cells.{clocks as Cells·clocks};
 
 // What opens, reopens and ends a record: no clocks.
 pub const START: u16 = 512;
@@ -41,7 +42,7 @@ pub const SILENCE: u16 = 2; // DISEC, 01h
 
 pub const ALLOW: u16 = 1; // ENEC, 00h
 
-pub const JOINING_EVENT: u16 = 16; // the data byte of silence and allow, 08h
+pub const JOINING: u16 = 16; // the data byte of silence and allow, 08h
 
 // Every named cell, in the order above.
 pub fn named_cells() -> [u16; 16]
@@ -63,7 +64,7 @@ pub fn named_cells() -> [u16; 16]
         MOVE,
         SILENCE,
         ALLOW,
-        JOINING_EVENT,
+        JOINING,
     ]
 }
 
@@ -105,7 +106,21 @@ pub fn identity_cell(byte: u8) -> u16
     1024 + (byte as u16)
 }
 
-// The byte of a header that writes to an address, and of a new address sent as data. An address is seven bits; a higher one is dropped.
+// How many clocks a cell took on the bus.
+pub fn clocks(cell: u16) -> u16
+    ensures { λ r. ⌜ r ≡ Cells·clocks cell ⌝ }
+{
+    if cell < 512 {
+        return 9;
+    }
+    if (1024 <= cell) & (cell <= 1279) {
+        return 8;
+    }
+    0
+}
+
+// The byte of a header that writes to an address, and of a new address sent as data: the address above a 0. An address is seven bits, and of a
+// number over 127 only the lowest seven count.
 pub fn write_byte(address: u8) -> u8
     ensures { λ r. ⌜ r ≡ writeByte address ⌝ }
 {
@@ -142,7 +157,7 @@ fn flip(byte: u8, k: u8) -> u8
 
 // A byte after a flip: 0 to 7 turns the bit of value 2 to that power, 8 and more turn none.
 pub fn flipped(byte: u8, k: u8) -> u8
-    ensures { λ r. ⌜ r ≡ Parity·flipped byte k ⌝ }
+    ensures { λ r. ⌜ r ≡ Parity·flipped k byte ⌝ }
 {
     if k < 8 { flip(byte, k) } else { byte }
 }

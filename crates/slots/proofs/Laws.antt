@@ -13,7 +13,7 @@ use Rattle.lists.specs.Bits.{bit}
 use Rattle.lists.proofs.Bools.{both, and, agree}
 use Rattle.lists.proofs.Numbers.{all-numbers, all-number, within-below, within-above, one-of-above}
 use Rattle.lists.proofs.Bits.{bit-of-zero, bits-none}
-use Rattle.slots.specs.Slots.{classOf, isLegacy, legacyRight, facts, noFacts, factsRight, checked, isOpen, slotTest}
+use Rattle.slots.specs.Slots.{classOf, isLegacy, legacyRight, factsOf, refusedFacts, factsRight, checked, isOpen, slotTest}
 use Rattle.slots.specs.declared.Facts.{Facts}
 use Rattle.slots.specs.declared.Checked.{Checked}
 use Rattle.slots.specs.declared.SlotAnswer.{SlotAnswer}
@@ -107,7 +107,7 @@ module _ (f : Facts) where
   unfolding checked
   checked-yes h = rw h
 
-  pub checked-no : factsRight f ≡ false → record { right = false; facts = noFacts } ≡ checked f
+  pub checked-no : factsRight f ≡ false → record { right = false; facts = refusedFacts } ≡ checked f
   unfolding checked
   checked-no h = rw h
 
@@ -116,7 +116,7 @@ module _ (f : Facts) where
   checked-right = refl
 
 -- a legacy set that isn't 16 bytes is not right
-pub legacy-length : (flags : ℕ) (legacy : List ℕ) (last : ℕ) → (length legacy ≡ 16 → ⊥) → factsRight (facts flags legacy last) ≡ false
+pub legacy-length : (flags : ℕ) (legacy : List ℕ) (last : ℕ) → (length legacy ≡ 16 → ⊥) → factsRight (factsOf flags legacy last) ≡ false
 unfolding factsRight legacyRight
 legacy-length flags legacy last h = rw (ne-eqb (length legacy) 16 h, and-false)
 

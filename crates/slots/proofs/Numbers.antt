@@ -8,10 +8,10 @@ use lib.ListN.{replicate}
 use Rattle.lists.specs.Lists.{count}
 use Rattle.lists.specs.Numbers.{numbers}
 use Rattle.lists.specs.Bits.{bit}
-use Rattle.slots.specs.Slots.{classOf, allows, facts, isLegacy, isOpen}
+use Rattle.slots.specs.Slots.{classOf, allows, factsOf, isLegacy, isOpen}
 
 -- 3Eh barred, 3Fh open; with flags 1: 07h closed, 08h open
-pub starred : (classOf 0x3E ≡ 1) × (map (isOpen (facts 1 (replicate 16 0) 0)) (0x3E ∷ 0x3F ∷ 0x07 ∷ 0x08 ∷ []) ≡ (false ∷ true ∷ false ∷ true ∷ []))
+pub starred : (classOf 0x3E ≡ 1) × (map (isOpen (factsOf 1 (replicate 16 0) 0)) (0x3E ∷ 0x3F ∷ 0x07 ∷ 0x08 ∷ []) ≡ (false ∷ true ∷ false ∷ true ∷ []))
 unfolding classOf isOpen allows isLegacy bit
 starred = (refl, refl)
 

@@ -1,7 +1,7 @@
 // The 128 address slots, the bus facts, and the slot test.
 ghost use mathlib.Core.Path.{_≡_};
 ghost use lib.ListN.{length};
-ghost use Rattle.slots.specs.Slots.{classOf, facts, noFacts, checked, isLegacy, legacyRight, factsRight, isOpen, slotTest};
+ghost use Rattle.slots.specs.Slots.{classOf, factsOf, refusedFacts, checked, isLegacy, legacyRight, factsRight, isOpen, slotTest};
 ghost use Rattle.slots.specs.Slots.{allows as Slots·allows};
 
 mod classes;
@@ -96,8 +96,8 @@ fn sixteen(legacy: &[u8]) -> [u8; 16]
 }
 
 // The facts of a refused start: flags 0, no legacy, no ticket left.
-fn no_facts() -> Facts
-    ensures { λ r. ⌜ r ≡ noFacts ⌝ }
+fn refused_facts() -> Facts
+    ensures { λ r. ⌜ r ≡ refusedFacts ⌝ }
 {
     Facts {
         flags: 0,
@@ -108,12 +108,12 @@ fn no_facts() -> Facts
 
 // Facts from numbers and a legacy set of any length, if they keep the rules.
 pub fn checked_facts(flags: u8, legacy: &[u8], last: u32) -> Checked
-    ensures { λ r. ⌜ r ≡ checked (facts flags (now (legacy .entry)) last) ⌝ }
+    ensures { λ r. ⌜ r ≡ checked (factsOf flags (now (legacy .entry)) last) ⌝ }
 {
     if legacy.len() != 16 {
         return Checked {
             right: false,
-            facts: no_facts(),
+            facts: refused_facts(),
         };
     }
     let given = Facts {
@@ -129,14 +129,14 @@ pub fn checked_facts(flags: u8, legacy: &[u8], last: u32) -> Checked
     } else {
         Checked {
             right: false,
-            facts: no_facts(),
+            facts: refused_facts(),
         }
     }
 }
 
 // The slot test: whether an address is open. Refusal 1: the facts break a rule, or the legacy set is not 16 bytes; then 2: the address is over 127.
 pub fn slot_test(flags: u8, legacy: &[u8], last: u32, address: u8) -> SlotAnswer
-    ensures { λ r. ⌜ r ≡ slotTest (facts flags (now (legacy .entry)) last) address ⌝ }
+    ensures { λ r. ⌜ r ≡ slotTest (factsOf flags (now (legacy .entry)) last) address ⌝ }
 {
     let checked = checked_facts(flags, legacy, last);
     let facts = checked.facts;

@@ -3,7 +3,7 @@ use Prim.Native.Nat.{_+_, _%_, _<_}
 use mathlib.Core.Path.{_≡_}
 use native.Mathlib.Omega.{arith}
 use lib.Count.{onesIn}
-use Rattle.parity.specs.Parity.{odd, oddBit}
+use Rattle.parity.specs.Parity.{parity, oddBit}
 use Rattle.parity.proofs.Laws.{ones-more, ones-none}
 use Rattle.parity.proofs.ninth_bit.Statement.{statement}
 use Rattle.parity.proofs.ninth_bit.Tie as tie
@@ -30,7 +30,7 @@ loop-again : tie.Need-loop-again Inv-loop μ-loop
 loop-again c = omega (arith, ones-more (c .before .loop .left) (c .before .loop .rest) (c .loop-test .taken))
 
 returns : tie.Need-returns Inv-loop μ-loop
-unfolding oddBit odd
+unfolding oddBit parity
 returns c = omega (arith, ones-none (c .before .loop .left) (c .before .loop .rest) (c .loop-test .left))
 
 pub ninth-bit-spec : {M : Type 1} → statement M
