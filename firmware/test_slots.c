@@ -2,10 +2,9 @@
  * test_slots.c: the slot test of rack.h, held to the table of the address slots.
  *
  * A model of the table and of the rules for bus facts answers every question here. For each of some
- * hundreds of legacy sets, right and wrong ones, the library is asked with every flag byte and every
- * address byte and must give the model's answer, whatever the last ticket is, and change no byte of
- * the set or beside it. The wrapper is asked a part of these questions and must say the same; it must
- * refuse a null pointer.
+ * hundreds of legacy sets, right and wrong ones, the library and the wrapper are asked with every flag
+ * byte and every address byte, and must give the model's answer, whatever the last ticket is, and change
+ * no byte of the set or beside it. The wrapper must refuse a null pointer.
  */
 #include <stdbool.h>
 #include <stddef.h>
@@ -220,15 +219,6 @@ static bool wrapper_agrees(struct run *run, const struct legacy_set *set, const 
 
 /* ---- The tests ---- */
 
-/*
- * Whether the wrapper is asked this too: always with right flags, else one question in four, and another one
- * in the next set. Asking it everything would double the calls, and it does no more than pass the flags on.
- */
-static bool wrapper_asked(const struct run *run, struct question question)
-{
-    return flags_right(question.flags) || (question.flags + question.address + test_number(run)) % 4 == 0;
-}
-
 /* Asks every question of one set, up to the first disagreement. */
 static bool questions_agree(struct run *run, const struct legacy_set *set, const uint8_t *lent)
 {
@@ -237,10 +227,7 @@ static bool questions_agree(struct run *run, const struct legacy_set *set, const
         for (unsigned address = 0; address <= 255; address++) {
             const struct question question = { (uint8_t)flags, (uint8_t)address };
             const uint32_t should = model_answer(question.flags, set->bytes, right, question.address);
-            if (!slot_test_agrees(run, set, lent, question, should)) {
-                return false;
-            }
-            if (wrapper_asked(run, question) && !wrapper_agrees(run, set, lent, question, should)) {
+            if (!slot_test_agrees(run, set, lent, question, should) || !wrapper_agrees(run, set, lent, question, should)) {
                 return false;
             }
         }

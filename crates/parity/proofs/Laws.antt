@@ -2,17 +2,16 @@
 use mathlib.Core.Path.{_≡_, refl, _∙_}
 use mathlib.Core.Bool.{Bool, true, false, cond}
 use Prim.Native.Nat.{ℕ, zero, suc, _+_, _-_, _*_, _/_, _%_, _^_, _≤_, _<_}
-use native.Mathlib.Nat.{add-zero, pow-suc, le-of-suc-le-suc, not-suc-le-zero, one-mul, mod-eq-of-lt}
-use native.Mathlib.Numerals.{add-one}
+use native.Mathlib.Nat.{pow-suc, le-of-suc-le-suc, not-suc-le-zero, one-mul, mod-eq-of-lt}
 use native.Mathlib.Omega.{arith}
 use lib.Count.{onesIn}
 use lib.Dec.{eqb, lit<}
-use lib.Pow.{shl-exact, field, mod-mod-pow}
+use lib.Pow.{shl-exact}
 use borrow.Author.Tests.{eqb-true, eqb-false, eq-eqb, ne-eqb}
 use Rattle.lists.specs.Bits.{bit}
 use Rattle.lists.proofs.Bits.{bit-zero, bit-suc, bit-there}
 use Rattle.parity.specs.Parity.{parity, oddBit, oddOnes, flip}
-use Rattle.parity.specs.Cells.{writeByte, offeredByte}
+use Rattle.parity.specs.Cells.{offeredByte}
 
 -- ---- counting
 

@@ -1,7 +1,6 @@
 -- The paper's numbers, each list as one statement.
 use mathlib.Core.Path.{_≡_, refl}
-use mathlib.Core.List.{List, [], _∷_, map}
-use Prim.Native.Nat.{ℕ}
+use mathlib.Core.List.{[], _∷_, map}
 use lib.Count.{onesIn}
 use Rattle.parity.specs.Parity.{parity, oddBit}
 use Rattle.parity.specs.Cells.{dataCell, offeredByte, namedCells}

@@ -1,22 +1,20 @@
 -- Laws of the slots: numbers above 7Fh, the two bytes that decide whether a legacy set is right, facts that were checked, the slot test's ways.
-use Prim.Native.Nat.{ℕ, _+_, _*_, _/_, _%_, _^_, _≤_, _<_}
+use Prim.Native.Nat.{ℕ, _+_, _*_, _/_, _%_, _≤_, _<_}
 use mathlib.Core.Path.{_≡_, refl, sym, ap, _∙_}
-use mathlib.Core.Bool.{Bool, true, false, cond, not, _&&_, _||_, or-true, and-false}
+use mathlib.Core.Bool.{Bool, true, false, not, _&&_, _||_, or-true, and-false}
 use mathlib.Core.List.{List, [], _∷_}
 use native.Mathlib.Omega.{arith}
 use lib.Dec.{eqb, ltb, leb}
 use lib.ListN.{length, getD, List·getD-eq-default}
 use borrow.Author.Tests.{eq-eqb, ne-eqb, eqb-true, ltb-true, ltb-false, leb-false, le-leb, lt-ltb, le-ltb, not-false}
 use Rattle.lists.specs.Lists.{all}
-use Rattle.lists.specs.Numbers.{numbers, within, oneOf}
-use Rattle.lists.specs.Bits.{bit}
+use Rattle.lists.specs.Numbers.{numbers, within}
 use Rattle.lists.proofs.Bools.{both, and, agree}
 use Rattle.lists.proofs.Numbers.{all-numbers, all-number, within-below, within-above, one-of-above}
 use Rattle.lists.proofs.Bits.{bit-of-zero, bits-none}
 use Rattle.slots.specs.Slots.{classOf, isLegacy, legacyRight, factsOf, refusedFacts, factsRight, checked, isOpen, slotTest}
 use Rattle.slots.specs.declared.Facts.{Facts}
 use Rattle.slots.specs.declared.Checked.{Checked}
-use Rattle.slots.specs.declared.SlotAnswer.{SlotAnswer}
 
 -- a number above 7Fh is no address
 pub class-above : (a : ℕ) → 128 ≤ a → classOf a ≡ 7

@@ -1,7 +1,7 @@
 -- The address slots: the class of each address, the bus facts, and which addresses are open.
 -- proofs/Numbers has the paper's numbers: the 108 open addresses, those one bit away from 7Eh, and the starred ones.
 use Prim.Native.Nat.{ℕ, _/_, _%_}
-use mathlib.Core.Bool.{Bool, true, false, cond, not, _&&_, _||_}
+use mathlib.Core.Bool.{Bool, false, cond, not, _&&_, _||_}
 use mathlib.Core.List.{List, [], _∷_}
 use lib.Dec.{eqb, ltb, leb}
 use lib.ListN.{length, getD, replicate}
