@@ -11,7 +11,7 @@ use Rattle.lists.specs.Bits.{bit}
 use Rattle.slots.specs.Slots.{classOf, allows, factsOf, isLegacy, isOpen}
 
 -- 3Eh barred, 3Fh open; with flags 1: 07h closed, 08h open
-pub starred : (classOf 0x3E ≡ 1) × (map (isOpen (factsOf 1 (replicate 16 0) 0)) (0x3E ∷ 0x3F ∷ 0x07 ∷ 0x08 ∷ []) ≡ (false ∷ true ∷ false ∷ true ∷ []))
+pub starred : (map classOf (0x3E ∷ 0x3F ∷ []) ≡ (1 ∷ 4 ∷ [])) × (map (isOpen (factsOf 1 (replicate 16 0) 0)) (0x07 ∷ 0x08 ∷ []) ≡ (false ∷ true ∷ []))
 unfolding classOf isOpen allows isLegacy bit
 starred = (refl, refl)
 

@@ -4,9 +4,13 @@ ghost use lib.ListN.{length};
 ghost use Rattle.slots.specs.Slots.{classOf, factsOf, refusedFacts, checked, isLegacy, legacyRight, factsRight, isOpen, slotTest};
 ghost use Rattle.slots.specs.Slots.{allows as Slots·allows};
 
-mod classes;
+pub mod classes;
 
 use classes::CLASS;
+use classes::CLOSED_BY_FLAG_1;
+use classes::NO_ADDRESS;
+use classes::OPEN;
+use classes::OPEN_WITH_FLAG_2;
 
 // What is known of a bus: the flag byte (1: an I2C high-speed device is present; 2: 03h may be used), the set of legacy I2C addresses (address a
 // is bit a % 8 of byte a / 8), and the last ticket given.
@@ -28,14 +32,14 @@ pub struct SlotAnswer {
     pub open: bool,
 }
 
-// The class of an address, and 7 above 7Fh.
+// The class of an address; a number above 7Fh has a class of its own.
 pub fn class_of(address: u8) -> u8
     ensures { λ r. ⌜ r ≡ classOf address ⌝ }
 {
     if address < 128 {
         CLASS[address as usize]
     } else {
-        7
+        NO_ADDRESS
     }
 }
 
@@ -43,7 +47,9 @@ pub fn class_of(address: u8) -> u8
 fn allows(flags: u8, class: u8) -> bool
     ensures { λ r. ⌜ r ≡ Slots·allows flags class ⌝ }
 {
-    (class == 4) | ((class == 2) & (flags / 2 % 2 == 1)) | ((class == 3) & (flags % 2 != 1))
+    (class == OPEN)
+        | ((class == OPEN_WITH_FLAG_2) & (flags / 2 % 2 == 1))
+        | ((class == CLOSED_BY_FLAG_1) & (flags % 2 != 1))
 }
 
 // Whether an address is in the legacy set.
