@@ -1,10 +1,9 @@
 /*
- * Asks which addresses a board may be given.
+ * example FLAGS [LEGACY ...]: which addresses a board may be given.
  *
- *     example FLAGS [LEGACY ...]
- *
- * FLAGS is the bus's flag byte, decimal; each LEGACY is the address of an I2C
- * device on the bus, in hex. Prints the open addresses, or `refused N`.
+ * FLAGS is the bus's flag byte, in decimal; each LEGACY is the address of an
+ * I2C device on the bus, in hex. Prints the open addresses and how many there
+ * are, or `refused N`.
  */
 #include <stdio.h>
 #include <stdlib.h>
@@ -18,11 +17,21 @@ static bool number(const char *text, int base, unsigned long most, unsigned long
     return text[0] >= '0' && *end == '\0' && *out <= most;
 }
 
+/* One open address, or the first and last of several in a row. */
+static void print_run(unsigned first, unsigned last)
+{
+    if (first == last)
+        printf("%02X ", first);
+    else
+        printf("%02X-%02X ", first, last);
+}
+
 int main(int argc, char **argv)
 {
     uint8_t legacy[RACK_LEGACY_BYTES] = { 0 };
     unsigned long flags;
-    unsigned count = 0;
+    unsigned count = 0; /* open addresses so far */
+    unsigned run = 0;   /* of these, how many stand in a row up to here */
 
     if (argc < 2 || !number(argv[1], 10, 255, &flags)) {
         fprintf(stderr, "usage: example FLAGS [LEGACY ...]\n");
@@ -44,10 +53,13 @@ int main(int argc, char **argv)
             return 1;
         }
         if (slot.open) {
-            printf("%s%02X", count == 0 ? "" : count % 16 == 0 ? "\n" : " ", address);
             count++;
+            run++;
+        } else if (run > 0) {
+            print_run(address - run, address - 1);
+            run = 0;
         }
     }
-    printf("%s%u open\n", count == 0 ? "" : "\n", count);
+    printf("(%u open)\n", count); /* 7Fh is never open, so no run is left */
     return 0;
 }
