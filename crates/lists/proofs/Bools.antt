@@ -3,7 +3,7 @@
 use Prim.Native.Nat.{ℕ}
 use mathlib.Core.Path.{_≡_, refl, ap, _∙_, sym}
 use mathlib.Core.Bool.{Bool, true, false, cond, not, _&&_, _||_, and-eq-true-iff}
-use lib.Dec.{T, eqb, ltb, leb}
+use lib.Dec.{eqb, ltb, leb}
 
 -- ---- tests
 
@@ -12,10 +12,6 @@ both a b h = and-eq-true-iff a b .0 h
 
 pub and : {a b : Bool} → a ≡ true → b ≡ true → (a && b) ≡ true
 and p q = rw (p, q)
-
-pub passes : (b : Bool) → T b → b ≡ true
-passes true t = refl
-passes false t = absurd t
 
 -- two tests agree where each passes if the other does
 pub agree : (a b : Bool) → (a ≡ true → b ≡ true) → (b ≡ true → a ≡ true) → a ≡ b

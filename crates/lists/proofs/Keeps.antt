@@ -1,11 +1,12 @@
--- What all, pairwise and find keep when an element is put in, replaced or cut off.
+-- What all and pairwise say of parts of a list, and that they stay when an element is put in, replaced, taken out or cut off; what it
+-- means that something was found.
 use Prim.Native.Nat.{ℕ, zero, suc, _<_, _≤_}
 use mathlib.Core.Path.{_≡_, refl, sym}
 use mathlib.Core.Bool.{Bool, true, false, cond, not, _&&_, _||_}
-use mathlib.Core.List.{List, [], _∷_}
+use mathlib.Core.List.{List, [], _∷_, _++_}
 use native.Mathlib.Omega.{arith}
 use lib.ListN.{length, getD, take, set}
-use Rattle.lists.specs.Lists.{any, all, pairwise, find, insertBy}
+use Rattle.lists.specs.Lists.{any, all, pairwise, find, insertBy, deleteBy}
 use Rattle.lists.proofs.Bools.{both, and}
 
 module _ {A : Type 0} where
@@ -68,7 +69,36 @@ module _ {A : Type 0} where
   all-set p x e (y ∷ ys) zero h = and e (both (p y) (all p ys) h .1)
   all-set p x e (y ∷ ys) (suc k) h = and (both (p y) (all p ys) h .0) (all-set p x e ys k (both (p y) (all p ys) h .1))
 
+  pub all-snoc : (p : A → Bool) (x : A) → p x ≡ true → (l : List A) → all p l ≡ true → all p (l ++ (x ∷ [])) ≡ true
+  all-snoc p x e [] h = and e refl
+  all-snoc p x e (y ∷ ys) h = and (both (p y) (all p ys) h .0) (all-snoc p x e ys (both (p y) (all p ys) h .1))
+
+  pub all-delete : (p q : A → Bool) (x : A) → p x ≡ true → (l : List A) → all p l ≡ true → all p (deleteBy q x l) ≡ true
+  all-delete p q x e [] h = refl
+  all-delete p q x e (y ∷ ys) h = go (all-delete p q x e ys (both (p y) (all p ys) h .1)) (q y)
+    where
+      go : all p (deleteBy q x ys) ≡ true → (b : Bool) → all p (cond b (ys ++ (x ∷ [])) (y ∷ deleteBy q x ys)) ≡ true
+      go ih true = all-snoc p x e ys (both (p y) (all p ys) h .1)
+      go ih false = and (both (p y) (all p ys) h .0) ih
+
   module _ (r : A → A → Bool) where
+    pub pairwise-snoc : (x : A) (l : List A) → all (λ y. r y x) l ≡ true → pairwise r l ≡ true → pairwise r (l ++ (x ∷ [])) ≡ true
+    pairwise-snoc x [] h w = refl
+    pairwise-snoc x (y ∷ ys) h w =
+        let hy = both (r y x) (all (λ z. r z x) ys) h in
+        let wy = both (all (r y) ys) (pairwise r ys) w in
+        and (all-snoc (r y) x (hy .0) ys (wy .0)) (pairwise-snoc x ys (hy .1) (wy .1))
+
+    -- an element goes, and x, which may stand behind every one, comes to the end
+    pub pairwise-delete : (q : A → Bool) (x : A) (l : List A) → all (λ y. r y x) l ≡ true → pairwise r l ≡ true → pairwise r (deleteBy q x l) ≡ true
+    pairwise-delete q x [] h w = refl
+    pairwise-delete q x (y ∷ ys) h w =
+        go (pairwise-delete q x ys (both (r y x) (all (λ z. r z x) ys) h .1) (both (all (r y) ys) (pairwise r ys) w .1)) (q y)
+      where
+        go : pairwise r (deleteBy q x ys) ≡ true → (b : Bool) → pairwise r (cond b (ys ++ (x ∷ [])) (y ∷ deleteBy q x ys)) ≡ true
+        go ih true = pairwise-snoc x ys (both (r y x) (all (λ z. r z x) ys) h .1) (both (all (r y) ys) (pairwise r ys) w .1)
+        go ih false = and (all-delete (r y) q x (both (r y x) (all (λ z. r z x) ys) h .0) ys (both (all (r y) ys) (pairwise r ys) w .0)) ih
+
     pub pairwise-take : (n : ℕ) (l : List A) → pairwise r l ≡ true → pairwise r (take n l) ≡ true
     pairwise-take zero l h = refl
     pairwise-take (suc n) [] h = refl

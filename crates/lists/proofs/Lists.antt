@@ -1,9 +1,10 @@
--- For each definition over a list the three laws that a loop's proof cites: what it is of the elements from place i on where the test
--- held at i (-here), where it did not (-next), and past the end (-end).
-use Prim.Native.Nat.{ℕ, suc, _+_, _<_, _≤_}
-use mathlib.Core.Path.{_≡_}
+-- For each definition over a list the three laws that a loop's proof cites: what it is of the elements from place i on, where the one at i
+-- decides (-here), where it leaves it to the others (-next), and past the end (-end).
+use Prim.Native.Nat.{ℕ, zero, suc, _+_, _<_, _≤_}
+use mathlib.Core.Path.{_≡_, refl}
 use mathlib.Core.Bool.{Bool, true, false}
-use mathlib.Core.List.{List, _∷_}
+use mathlib.Core.List.{List, [], _∷_}
+use native.Mathlib.Omega.{arith}
 use native.Mathlib.Numerals.{add-one}
 use lib.ListN.{length, getD, drop, drop-of-length-le}
 use lib.Seq.{drop-cons}
@@ -12,6 +13,12 @@ use Rattle.lists.specs.Lists.{any, all, pairwise, count, find}
 module _ {A : Type 0} where
   pub drop-step : (l : List A) (i : ℕ) (d : A) → i < length l → drop i l ≡ getD l i d ∷ drop (i + 1) l
   drop-step l i d h = rw (add-one, drop-cons l i d)
+
+  -- within a list the default does not matter
+  pub getD-any : (l : List A) (i : ℕ) (d e : A) → i < length l → getD l i d ≡ getD l i e
+  getD-any [] i d e h = absurd (omega arith)
+  getD-any (x ∷ l) zero d e h = refl
+  getD-any (x ∷ l) (suc i) d e h = getD-any l i d e (omega arith)
 
   module _ (p : A → Bool) (l : List A) (i : ℕ) where
     pub any-end : length l ≤ i → any p (drop i l) ≡ false

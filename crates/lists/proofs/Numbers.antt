@@ -18,10 +18,10 @@ unfolding numbers
 all-numbers p a zero h = refl
 all-numbers p a (suc k) h = and (h a (omega arith) (omega arith)) (all-numbers p (suc a) k (λ n l u. h n (omega arith) (omega arith)))
 
-pub all-number : (p : ℕ → Bool) (a k : ℕ) → all p (numbers a k) ≡ true → (n : ℕ) → a ≤ n → n < a + k → p n ≡ true
+pub all-numbers-at : (p : ℕ → Bool) (a k : ℕ) → all p (numbers a k) ≡ true → (n : ℕ) → a ≤ n → n < a + k → p n ≡ true
 unfolding numbers
-all-number p a zero h n l u = absurd (omega arith)
-all-number p a (suc k) h n l u = go (all-number p (suc a) k (both (p a) (all p (numbers (suc a) k)) h .1) n) (n - a) refl
+all-numbers-at p a zero h n l u = absurd (omega arith)
+all-numbers-at p a (suc k) h n l u = go (all-numbers-at p (suc a) k (both (p a) (all p (numbers (suc a) k)) h .1) n) (n - a) refl
   where
     go : (suc a ≤ n → n < suc a + k → p n ≡ true) → (d : ℕ) → n - a ≡ d → p n ≡ true
     go ih zero e = let s : n ≡ a = omega arith in rw s (both (p a) (all p (numbers (suc a) k)) h .0)

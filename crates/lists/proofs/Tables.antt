@@ -28,9 +28,9 @@ from f (x ∷ xs) i t (suc k) h =
     (from f xs (suc i) (right (f i x) (every f (suc i) xs) t) k (le-of-suc-le-suc h))
 
 -- so it passes at the entry k
-pub at : (f : ℕ → ℕ → Bool) (xs : List ℕ) → T (every f 0 xs) → (k : ℕ) → k < length xs → T (f k (getD xs k 0))
-at f xs t k h = subst (λ (m : ℕ). T (f m (getD xs k 0))) (zero-add k) (from f xs 0 t k h)
+every-at : (f : ℕ → ℕ → Bool) (xs : List ℕ) → T (every f 0 xs) → (k : ℕ) → k < length xs → T (f k (getD xs k 0))
+every-at f xs t k h = subst (λ (m : ℕ). T (f m (getD xs k 0))) (zero-add k) (from f xs 0 t k h)
 
 -- a table whose entry at each place k is f k
 pub tabled : (f : ℕ → ℕ) (xs : List ℕ) (k : ℕ) → T (every (λ i x. eqb x (f i)) 0 xs) → k < length xs → getD xs k 0 ≡ f k
-tabled f xs k t h = eqb→eq (getD xs k 0) (f k) (at (λ i x. eqb x (f i)) xs t k h)
+tabled f xs k t h = eqb→eq (getD xs k 0) (f k) (every-at (λ i x. eqb x (f i)) xs t k h)

@@ -1,4 +1,4 @@
--- Definitions over a list, each by one test on an element. (The library's `any` and `all` do not compute outside their own module.)
+-- Definitions over a list, by tests on its elements. (The library's `any` and `all` do not compute outside their own module.)
 use Prim.Native.Nat.{ℕ, suc}
 use mathlib.Core.Bool.{Bool, true, false, cond, _&&_, _||_}
 use mathlib.Core.List.{List, [], _∷_, _++_}

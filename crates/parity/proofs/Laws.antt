@@ -3,15 +3,16 @@ use mathlib.Core.Path.{_≡_, refl, _∙_}
 use mathlib.Core.Bool.{Bool, true, false, cond}
 use Prim.Native.Nat.{ℕ, zero, suc, _+_, _-_, _*_, _/_, _%_, _^_, _≤_, _<_}
 use native.Mathlib.Nat.{pow-suc, le-of-suc-le-suc, not-suc-le-zero, one-mul, mod-eq-of-lt}
+use native.Mathlib.Numerals.{add-one}
 use native.Mathlib.Omega.{arith}
 use lib.Count.{onesIn}
 use lib.Dec.{eqb, lit<}
-use lib.Pow.{shl-exact}
+use lib.Pow.{shl-exact, field, mod-mod-pow}
 use borrow.Author.Tests.{eqb-true, eqb-false, eq-eqb, ne-eqb}
 use Rattle.lists.specs.Bits.{bit}
 use Rattle.lists.proofs.Bits.{bit-zero, bit-suc, bit-there}
 use Rattle.parity.specs.Parity.{parity, oddBit, oddOnes, flip}
-use Rattle.parity.specs.Cells.{offeredByte}
+use Rattle.parity.specs.Cells.{writeByte, offeredByte}
 
 -- ---- counting
 
@@ -106,7 +107,20 @@ worth k h = shl-exact {a = 1} 1 k 8 (lit< tt) (omega arith) ∙ one-mul (2 ^ k)
 
 -- ---- an offer
 
--- a 0 below counts for nothing, so one ninth bit serves commands, data and offered bytes
+-- only the lowest n bits are counted
+ones-low : (n x : ℕ) → onesIn n (x % 2 ^ n) ≡ onesIn n x
+unfolding onesIn
+ones-low zero x = refl
+ones-low (suc n) x =
+    let low : x % 2 ^ suc n % 2 ≡ x % 2 = rw (← add-one n) (mod-mod-pow x n 1) in
+    let half : x % 2 ^ suc n / 2 ≡ x / 2 % 2 ^ n = rw (← add-one n) (field x n 1) in
+    rw (low, half, ones-low n (x / 2))
+
+odd-bit-low : (n x : ℕ) → oddBit n (x % 2 ^ n) ≡ oddBit n x
+unfolding oddBit parity
+odd-bit-low n x = rw ones-low
+
+-- a 0 below counts for nothing
 odd-bit-above : (n x : ℕ) → oddBit (suc n) (x * 2 + 0) ≡ oddBit n x
 unfolding oddBit parity onesIn
 odd-bit-above n x =
@@ -114,12 +128,12 @@ odd-bit-above n x =
     let half : (x * 2 + 0) / 2 ≡ x = omega arith in
     rw (low, half) (omega arith)
 
-offer-odd : (a : ℕ) → parity 8 (offeredByte a) ≡ 1
-offer-odd a = rw (odd-bit-above 7 (a % 128)) (odd-with-bit 7 (a % 128))
+-- so an offered byte's own bit is the ninth bit of the header that writes to the address
+pub own-bit : (a : ℕ) → oddBit 8 (writeByte a) ≡ oddBit 7 a
+own-bit a = odd-bit-above 7 (a % 128) ∙ odd-bit-low 7 a
 
--- the bit of an offered byte is the one over the seven bits of the address
-pub offered-bit : (a : ℕ) → a < 128 → offeredByte a ≡ a * 2 + oddBit 7 a
-offered-bit a h = let e : a % 128 ≡ a = mod-eq-of-lt h in rw (e, odd-bit-above 7 a)
+offer-odd : (a : ℕ) → parity 8 (offeredByte a) ≡ 1
+offer-odd a = rw (odd-bit-low 7 a) at (odd-with-bit 7 (a % 128))
 
 -- an offered byte is taken as it was sent
 pub offer-taken : (a : ℕ) → oddOnes (offeredByte a) ≡ true
@@ -131,4 +145,4 @@ offer-refused k a h = ne-eqb _ _ (λ (e : parity 8 (flip k (offeredByte a)) ≡ 
 
 -- the address that it offers
 pub offered-address : (a : ℕ) → a < 128 → offeredByte a / 2 ≡ a
-offered-address a h = rw (offered-bit a h) (omega (arith, odd-bit-lt 7 a))
+offered-address a h = let e : a % 128 ≡ a = mod-eq-of-lt h in rw e (omega (arith, odd-bit-lt 7 a))

@@ -42,12 +42,13 @@ writeByte address = addressByte address 0
 abbrev pub readByte : ℕ → ℕ
 readByte address = addressByte address 1
 
--- an offered address byte: address times 2 plus the bit that makes its own count of ones odd
+-- an offered address byte: address times 2 plus the bit that makes its own count of ones, that of the seven bits and this one, odd
 abbrev pub offeredByte : ℕ → ℕ
-offeredByte address = addressByte address (oddBit 8 (writeByte address))
+offeredByte address = addressByte address (oddBit 7 address)
 
 -- ---- cells with a name
 
+-- START, repeated START, STOP
 abbrev pub startCell : ℕ
 startCell = 512
 
@@ -69,25 +70,31 @@ broadcastRead answered = answerCell (readByte 0x7E) answered
 abbrev pub hotJoin : Bool → ℕ
 hotJoin answered = answerCell (writeByte 0x02) answered
 
+-- assign, ENTDAA 07h
 abbrev pub assignCell : ℕ
 assignCell = dataCell 0x07
 
+-- reset all, RSTDAA 06h
 abbrev pub resetAllCell : ℕ
 resetAllCell = dataCell 0x06
 
+-- set from static, SETDASA 87h
 abbrev pub setFromStaticCell : ℕ
 setFromStaticCell = dataCell 0x87
 
+-- move, SETNEWDA 88h
 abbrev pub moveCell : ℕ
 moveCell = dataCell 0x88
 
--- silence joining (DISEC), allow joining (ENEC), and the data byte of both
+-- silence joining, DISEC 01h
 abbrev pub silenceCell : ℕ
 silenceCell = dataCell 0x01
 
+-- allow joining, ENEC 00h
 abbrev pub allowCell : ℕ
 allowCell = dataCell 0x00
 
+-- the joining event, 08h, data of both
 abbrev pub joiningCell : ℕ
 joiningCell = dataCell 0x08
 

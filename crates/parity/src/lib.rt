@@ -44,7 +44,10 @@ pub const ALLOW: u16 = 1; // ENEC, 00h
 
 pub const JOINING: u16 = 16; // the data byte of silence and allow, 08h
 
-// Every named cell, in the order above.
+// An identity byte is added to this number; it has no ninth bit.
+pub const IDENTITY: u16 = 1024;
+
+// Every named cell, in the order above: this is what ties the constants to the definitions.
 pub fn named_cells() -> [u16; 16]
     ensures { λ r. ⌜ r ≡ namedCells ⌝ }
 {
@@ -103,11 +106,12 @@ pub fn answer_cell(byte: u8, answered: bool) -> u16
 pub fn identity_cell(byte: u8) -> u16
     ensures { λ r. ⌜ r ≡ identityCell byte ⌝ }
 {
-    1024 + (byte as u16)
+    IDENTITY + (byte as u16)
 }
 
 // How many clocks a cell took on the bus.
 pub fn clocks(cell: u16) -> u16
+    ensures small { λ r. ⌜ r < 10 ⌝ }
     ensures { λ r. ⌜ r ≡ Cells·clocks cell ⌝ }
 {
     if cell < 512 {
@@ -135,15 +139,15 @@ pub fn offered_byte(address: u8) -> u8
     byte + ninth_bit(byte)
 }
 
-// Whether a byte's count of ones is odd: a board takes an offered address just then.
-pub fn is_odd(byte: u8) -> bool
+// Whether a byte's ones are odd: a board takes an offered address just then.
+pub fn odd_ones(byte: u8) -> bool
     ensures { λ r. ⌜ r ≡ oddOnes byte ⌝ }
 {
     ninth_bit(byte) == 0
 }
 
 // A byte with one bit the other way.
-fn flip(byte: u8, k: u8) -> u8
+fn flip(k: u8, byte: u8) -> u8
     requires { ⌜ k < 8 ⌝ }
     ensures { λ r. ⌜ r ≡ Parity·flip k byte ⌝ }
 {
@@ -156,8 +160,8 @@ fn flip(byte: u8, k: u8) -> u8
 }
 
 // A byte after a flip: 0 to 7 turns the bit of value 2 to that power, 8 and more turn none.
-pub fn flipped(byte: u8, k: u8) -> u8
+pub fn flipped(k: u8, byte: u8) -> u8
     ensures { λ r. ⌜ r ≡ Parity·flipped k byte ⌝ }
 {
-    if k < 8 { flip(byte, k) } else { byte }
+    if k < 8 { flip(k, byte) } else { byte }
 }

@@ -10,9 +10,9 @@ use borrow.Author.Tests.{eq-eqb, ne-eqb, eqb-true, ltb-true, ltb-false, leb-fals
 use Rattle.lists.specs.Lists.{all}
 use Rattle.lists.specs.Numbers.{numbers, within}
 use Rattle.lists.proofs.Bools.{both, and, agree}
-use Rattle.lists.proofs.Numbers.{all-numbers, all-number, within-below, within-above, one-of-above}
+use Rattle.lists.proofs.Numbers.{all-numbers, all-numbers-at, within-below, within-above, one-of-above}
 use Rattle.lists.proofs.Bits.{bit-of-zero, bits-none}
-use Rattle.slots.specs.Slots.{classOf, isLegacy, legacyRight, factsOf, refusedFacts, factsRight, checked, isOpen, slotTest}
+use Rattle.slots.specs.Slots.{classOf, isLegacy, liesRight, legacyRight, factsOf, refusedFacts, factsRight, checked, isOpen, slotTest}
 use Rattle.slots.specs.declared.Facts.{Facts}
 use Rattle.slots.specs.declared.Checked.{Checked}
 
@@ -40,10 +40,6 @@ legacy-above legacy a e h = rw (List·getD-eq-default legacy 0 {n = a / 8} (omeg
 
 -- ---- a right legacy set, by its first and last byte
 
--- the test of one address
-abbrev lies : List ℕ → ℕ → Bool
-lies legacy a = not (isLegacy legacy a) || within 0x08 0x77 a
-
 module _ (legacy : List ℕ) where
   -- a byte that is 0 holds no legacy address
   not-legacy : (a : ℕ) → getD legacy (a / 8) 0 ≡ 0 → isLegacy legacy a ≡ false
@@ -58,7 +54,7 @@ module _ (legacy : List ℕ) where
       (λ k b. let m : (i * 8 + k) % 8 ≡ k = omega arith in let d : (i * 8 + k) / 8 ≡ i = omega arith in rw (m, d) at (h k b))
 
   -- an address outside 08h to 77h lies right only if it is not legacy
-  outside : (a : ℕ) → lies legacy a ≡ true → within 0x08 0x77 a ≡ false → isLegacy legacy a ≡ false
+  outside : (a : ℕ) → liesRight legacy a ≡ true → within 0x08 0x77 a ≡ false → isLegacy legacy a ≡ false
   outside a h o = go (isLegacy legacy a) (rw o at h)
     where
       go : (b : Bool) → (not b || false) ≡ true → b ≡ false
@@ -66,10 +62,10 @@ module _ (legacy : List ℕ) where
       go false e = refl
 
   -- with bytes 0 and 15 empty every address lies right
-  lies-right : getD legacy 0 0 ≡ 0 → getD legacy 15 0 ≡ 0 → (a : ℕ) → a < 128 → lies legacy a ≡ true
+  lies-right : getD legacy 0 0 ≡ 0 → getD legacy 15 0 ≡ 0 → (a : ℕ) → a < 128 → liesRight legacy a ≡ true
   lies-right first last a h = go (ltb a 8) refl (leb a 0x77) refl
     where
-      go : (b : Bool) → ltb a 8 ≡ b → (d : Bool) → leb a 0x77 ≡ d → lies legacy a ≡ true
+      go : (b : Bool) → ltb a 8 ≡ b → (d : Bool) → leb a 0x77 ≡ d → liesRight legacy a ≡ true
       go true e d f =
           let z : a / 8 ≡ 0 = omega (arith, ltb-true a 8 e) in
           let none : isLegacy legacy a ≡ false = not-legacy a (rw z first) in
@@ -85,15 +81,15 @@ module _ (legacy : List ℕ) where
     unfolding legacyRight
     legacy-bytes = rw (eq-eqb (length legacy) 16 long) (agree _ _ to from)
       where
-        to : (eqb (getD legacy 0 0) 0 && eqb (getD legacy 15 0) 0) ≡ true → all (lies legacy) (numbers 0 128) ≡ true
+        to : (eqb (getD legacy 0 0) 0 && eqb (getD legacy 15 0) 0) ≡ true → all (liesRight legacy) (numbers 0 128) ≡ true
         to h =
             let t = both (eqb (getD legacy 0 0) 0) (eqb (getD legacy 15 0) 0) h in
-            all-numbers (lies legacy) 0 128
+            all-numbers (liesRight legacy) 0 128
             (λ a l u. lies-right (eqb-true (getD legacy 0 0) 0 (t .0)) (eqb-true (getD legacy 15 0) 0 (t .1)) a (omega arith))
 
-        from : all (lies legacy) (numbers 0 128) ≡ true → (eqb (getD legacy 0 0) 0 && eqb (getD legacy 15 0) 0) ≡ true
+        from : all (liesRight legacy) (numbers 0 128) ≡ true → (eqb (getD legacy 0 0) 0 && eqb (getD legacy 15 0) 0) ≡ true
         from h =
-            let at : (a : ℕ) → a < 128 → lies legacy a ≡ true = λ a b. all-number (lies legacy) 0 128 h a (omega arith) (omega arith) in
+            let at : (a : ℕ) → a < 128 → liesRight legacy a ≡ true = λ a b. all-numbers-at (liesRight legacy) 0 128 h a (omega arith) (omega arith) in
             let low : getD legacy 0 0 ≡ 0 = empty-byte 0 small0 (λ k b. outside (0 * 8 + k) (at (0 * 8 + k) (omega arith)) (within-below 0x08 0x77 (0 * 8 + k) (omega arith))) in
             let high : getD legacy 15 0 ≡ 0 = empty-byte 15 small15 (λ k b. outside (15 * 8 + k) (at (15 * 8 + k) (omega arith)) (within-above 0x08 0x77 (15 * 8 + k) (omega arith))) in
             and (eq-eqb _ _ low) (eq-eqb _ _ high)

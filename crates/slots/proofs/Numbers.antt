@@ -1,8 +1,9 @@
 -- The paper's numbers, each list as one statement.
-use Prim.Native.Nat.{ℕ}
 use mathlib.Core.Path.{_≡_, refl}
-use mathlib.Core.Bool.{true, false, not, Bool·beq}
+use mathlib.Core.Bool.{true, false}
 use mathlib.Core.List.{[], _∷_, map}
+use lib.Bits.{bitXor}
+use lib.Count.{onesIn}
 use lib.Dec.{eqb}
 use lib.ListN.{replicate}
 use Rattle.lists.specs.Lists.{count}
@@ -20,11 +21,7 @@ pub open-108 : count (λ a. eqb (classOf a) 4) (numbers 0x00 128) ≡ 108
 unfolding classOf numbers
 open-108 = refl
 
--- in how many of their seven bits two addresses differ
-abbrev differing : ℕ → ℕ → ℕ
-differing a b = count (λ k. not (Bool·beq (bit k a) (bit k b))) (numbers 0 7)
-
 -- class 1 has exactly the addresses that differ from 7Eh in one bit
-pub one-bit-away : map (λ a. eqb (classOf a) 1) (numbers 0x00 128) ≡ map (λ a. eqb (differing a 0x7E) 1) (numbers 0x00 128)
-unfolding classOf numbers bit
+pub one-bit-away : map (λ a. eqb (classOf a) 1) (numbers 0x00 128) ≡ map (λ a. eqb (onesIn 7 (bitXor a 0x7E)) 1) (numbers 0x00 128)
+unfolding classOf numbers onesIn
 one-bit-away = refl

@@ -48,9 +48,13 @@ isLegacy legacy address = bit (address % 8) (getD legacy (address / 8) 0)
 abbrev pub flagsRight : ℕ → Bool
 flagsRight flags = eqb (flags / 4) 0
 
--- 16 bytes (each below 256 by its type); legacy addresses lie in 08h to 77h
+-- a legacy address lies in 08h to 77h
+abbrev pub liesRight : List ℕ → ℕ → Bool
+liesRight legacy address = not (isLegacy legacy address) || within 0x08 0x77 address
+
+-- 16 bytes (each below 256 by its type), and all of their addresses lie right
 unfoldable pub legacyRight : List ℕ → Bool
-legacyRight legacy = eqb (length legacy) 16 && all (λ a. not (isLegacy legacy a) || within 0x08 0x77 a) (numbers 0x00 128)
+legacyRight legacy = eqb (length legacy) 16 && all (liesRight legacy) (numbers 0x00 128)
 
 -- 0 to 4,294,967,295
 abbrev pub lastRight : ℕ → Bool

@@ -1,36 +1,26 @@
-// The classes of addresses, by number.
-
-// Barred: reserved.
-pub const RESERVED: u8 = 0;
-// Barred: one bit away from 7Eh.
-pub const ONE_BIT_AWAY: u8 = 1;
-// Open only with flag value 2.
+// The classes that decide by themselves or with a flag, and that of the numbers above 7Fh.
 pub const OPEN_WITH_FLAG_2: u8 = 2;
-// Closed with flag value 1.
+
 pub const CLOSED_BY_FLAG_1: u8 = 3;
-// Open.
+
 pub const OPEN: u8 = 4;
-// Closed: 78h, 79h, 7Bh.
-pub const CLOSED: u8 = 5;
-// Closed: 7Dh.
-pub const CLOSED_7D: u8 = 6;
-// No address: above 7Fh.
+
 pub const NO_ADDRESS: u8 = 7;
 
 // The class of each of the 128 addresses.
 pub const CLASS: [u8; 128] = [
-    // 00h to 02h: RESERVED
+    // 00h to 02h: barred, reserved
     0,
     0,
     0,
-    // 03h: OPEN_WITH_FLAG_2
+    // 03h: open only with flag value 2
     2,
-    // 04h to 07h: CLOSED_BY_FLAG_1
+    // 04h to 07h: closed with flag value 1
     3,
     3,
     3,
     3,
-    // 08h to 3Dh: OPEN
+    // 08h to 3Dh: open
     4,
     4,
     4,
@@ -85,9 +75,9 @@ pub const CLASS: [u8; 128] = [
     4,
     4,
     4,
-    // 3Eh: ONE_BIT_AWAY
+    // 3Eh: barred, one bit away from 7Eh
     1,
-    // 3Fh to 5Dh: OPEN
+    // 3Fh to 5Dh: open
     4,
     4,
     4,
@@ -119,9 +109,9 @@ pub const CLASS: [u8; 128] = [
     4,
     4,
     4,
-    // 5Eh: ONE_BIT_AWAY
+    // 5Eh: barred, one bit away from 7Eh
     1,
-    // 5Fh to 6Dh: OPEN
+    // 5Fh to 6Dh: open
     4,
     4,
     4,
@@ -137,9 +127,9 @@ pub const CLASS: [u8; 128] = [
     4,
     4,
     4,
-    // 6Eh: ONE_BIT_AWAY
+    // 6Eh: barred, one bit away from 7Eh
     1,
-    // 6Fh to 75h: OPEN
+    // 6Fh to 75h: open
     4,
     4,
     4,
@@ -147,23 +137,23 @@ pub const CLASS: [u8; 128] = [
     4,
     4,
     4,
-    // 76h: ONE_BIT_AWAY
+    // 76h: barred, one bit away from 7Eh
     1,
-    // 77h: OPEN
+    // 77h: open
     4,
-    // 78h to 79h: CLOSED
+    // 78h to 79h: closed
     5,
     5,
-    // 7Ah: ONE_BIT_AWAY
+    // 7Ah: barred, one bit away from 7Eh
     1,
-    // 7Bh: CLOSED
+    // 7Bh: closed
     5,
-    // 7Ch: ONE_BIT_AWAY
+    // 7Ch: barred, one bit away from 7Eh
     1,
-    // 7Dh: CLOSED_7D
+    // 7Dh: closed
     6,
-    // 7Eh: RESERVED
+    // 7Eh: barred, reserved
     0,
-    // 7Fh: ONE_BIT_AWAY
+    // 7Fh: barred, one bit away from 7Eh
     1,
 ];

@@ -4,7 +4,7 @@ ghost use lib.ListN.{length};
 ghost use Rattle.slots.specs.Slots.{classOf, factsOf, refusedFacts, checked, isLegacy, legacyRight, factsRight, isOpen, slotTest};
 ghost use Rattle.slots.specs.Slots.{allows as Slots·allows};
 
-pub mod classes;
+mod classes;
 
 use classes::CLASS;
 use classes::CLOSED_BY_FLAG_1;
@@ -25,6 +25,11 @@ pub struct Checked {
     pub right: bool,
     pub facts: Facts,
 }
+
+// Refusals: the bus facts break a rule, or the legacy set is not 16 bytes; the address is over 127.
+pub const FACTS_WRONG: u8 = 1;
+
+pub const OUT_OF_RANGE: u8 = 2;
 
 // What the slot test says: refusal 0, and whether the address is open; or a refusal.
 pub struct SlotAnswer {
@@ -76,10 +81,10 @@ pub fn facts_right(f: Facts) -> bool
     ensures { λ r. ⌜ r ≡ factsRight f ⌝ }
 {
     let legacy = f.legacy;
-    (f.flags / 4 == 0) & legacy_right(legacy) & (f.last <= 4294967295)
+    (f.flags / 4 == 0) & legacy_right(legacy)
 }
 
-// Whether an address is open.
+// Whether an address is open: its class allows it with these flags, and no legacy device has it.
 pub fn is_open(f: Facts, address: u8) -> bool
     ensures { λ r. ⌜ r ≡ isOpen f address ⌝ }
 {
@@ -140,7 +145,7 @@ pub fn checked_facts(flags: u8, legacy: &[u8], last: u32) -> Checked
     }
 }
 
-// The slot test: whether an address is open. Refusal 1: the facts break a rule, or the legacy set is not 16 bytes; then 2: the address is over 127.
+// The slot test: whether an address is open, or a refusal, first for the facts, then for the address.
 pub fn slot_test(flags: u8, legacy: &[u8], last: u32, address: u8) -> SlotAnswer
     ensures { λ r. ⌜ r ≡ slotTest (factsOf flags (now (legacy .entry)) last) address ⌝ }
 {
@@ -148,13 +153,13 @@ pub fn slot_test(flags: u8, legacy: &[u8], last: u32, address: u8) -> SlotAnswer
     let facts = checked.facts;
     if !checked.right {
         return SlotAnswer {
-            refusal: 1,
+            refusal: FACTS_WRONG,
             open: false,
         };
     }
     if 127 < address {
         return SlotAnswer {
-            refusal: 2,
+            refusal: OUT_OF_RANGE,
             open: false,
         };
     }

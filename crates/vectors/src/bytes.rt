@@ -39,24 +39,22 @@ pub fn commands() {
     t.report(b"command codes and the event byte (000 tables 16 to 19, 54)");
 }
 
-// 000 annex D.1: 7Eh/W answered, repeated START, 2Bh/R answered, then 4Ah with a ninth bit of 1, which is the board's and no parity; 7Eh/W silent
-// and 2Bh/R silent beside them. 000 5.1.5: a board asks to join with 02h/W, byte 04h.
+// 000 annex D.1: 7Eh/W, then 2Bh/R, answered and silent; the byte read, 4Ah, has a ninth bit of 1, which is the board's and no parity. 000 5.1.5:
+// a board asks to join with 02h/W, byte 04h.
 pub fn frames() {
     let mut t = Tally::new();
-    t = t.number(0, parity::START as u32, 512);
     t = t.number(0xFC, parity::answer_cell(0xFC, true) as u32, 504);
     t = t.number(0xFC, parity::answer_cell(0xFC, false) as u32, 505);
-    t = t.number(0, parity::REPEATED_START as u32, 513);
     t = t.number(0x57, parity::answer_cell(0x57, true) as u32, 174);
     t = t.number(0x57, parity::answer_cell(0x57, false) as u32, 175);
-    t = t.number(0x4A, parity::data_cell(0x4A) as u32, 148);
+    t = t.number(0x4A, parity::answer_cell(0x4A, false) as u32, 149);
     t = t.number(0x02, parity::write_byte(0x02) as u32, 0x04);
     t = t.number(0x04, parity::answer_cell(0x04, true) as u32, 8);
     t = t.number(0x04, parity::answer_cell(0x04, false) as u32, 9);
     t.report(b"headers and answers (000 D.1, 5.1.5)");
 }
 
-// The address of one 1 and the address of two, as a header, as data and as an offer.
+// An address of one 1 and an address of two, as a header, as data and as an offer, answered.
 pub fn roles() {
     let mut t = Tally::new();
     t = t.number(
@@ -81,7 +79,7 @@ pub fn roles() {
         parity::answer_cell(parity::offered_byte(0x09), true) as u32,
         38,
     );
-    t.report(b"08h and 09h as header, data and offer (01)");
+    t.report(b"08h and 09h as header, data and offer (by 01's rules)");
 }
 
 fn offer(t: Tally, address: u8, should: u8) -> Tally {
@@ -116,5 +114,5 @@ pub fn every_byte() {
     t = t.number(6, passing(Test::Turns(6), 0x00, 0xFF), 256);
     t = t.number(7, passing(Test::Turns(7), 0x00, 0xFF), 256);
     t = t.number(8, passing(Test::Stays(8), 0x00, 0xFF), 256);
-    t.report(b"ninth bit and flips 0 to 8 of every byte (000 5.1.2.3.3, 01)");
+    t.report(b"ninth bit and flips 0 to 8 of every byte (000 5.1.2.3.3, by 01's rules)");
 }

@@ -4,6 +4,7 @@
 // In the groups' names 000 is MIPI I3C Basic 1.1.1, and 01 the rack's exact rules.
 mod addresses;
 mod bytes;
+mod records;
 mod sweep;
 mod tally;
 
@@ -14,7 +15,12 @@ fn main() {
     bytes::roles();
     bytes::offers();
     bytes::every_byte();
+    records::named();
+    records::direct();
+    records::example();
+    addresses::free_for_use();
     addresses::classes();
     addresses::opens();
-    addresses::slot_tests();
+    addresses::refusals();
+    addresses::legacy();
 }

@@ -2,7 +2,7 @@
 use slots::Facts;
 
 pub enum Test {
-    // the ones of the byte and its ninth bit are odd, as the processor counts them, and is_odd says of its own what the processor does
+    // in the byte and its ninth bit the processor counts odd ones, and odd_ones agrees with it on the byte alone
     Ninth,
     // this flip turns the byte's parity, and a second one gives the byte again
     Turns(u8),
@@ -12,6 +12,8 @@ pub enum Test {
     Offer,
     // the address is of this class
     Class(u8),
+    // the address is of class 1 just where the processor counts one bit in which it differs from 7Eh
+    Near,
     // the address is open with these flags, no legacy device
     Open(u8),
     // with this flag byte none of the seven addresses one bit away from 7Eh is open
@@ -23,20 +25,24 @@ fn odd_count(number: u32) -> bool {
 }
 
 fn ninth(byte: u8) -> bool {
-    odd_count(parity::data_cell(byte) as u32) & (parity::is_odd(byte) == odd_count(byte as u32))
+    odd_count(parity::data_cell(byte) as u32) & (parity::odd_ones(byte) == odd_count(byte as u32))
 }
 
-fn turns(byte: u8, k: u8) -> bool {
-    let flipped = parity::flipped(byte, k);
-    (parity::is_odd(flipped) != parity::is_odd(byte)) & (parity::flipped(flipped, k) == byte)
+fn turns(k: u8, byte: u8) -> bool {
+    let flipped = parity::flipped(k, byte);
+    (parity::odd_ones(flipped) != parity::odd_ones(byte)) & (parity::flipped(k, flipped) == byte)
 }
 
 fn offer(address: u8) -> bool {
     let byte = parity::offered_byte(address);
-    parity::is_odd(byte) & (byte / 2 == address) & ((byte % 2 == 0) == odd_count(address as u32))
+    parity::odd_ones(byte) & (byte / 2 == address) & ((byte % 2 == 0) == odd_count(address as u32))
 }
 
-pub fn open(flags: u8, address: u8) -> bool {
+fn near(address: u8) -> bool {
+    (slots::class_of(address) == 1) == (u32::count_ones((address as u32) ^ 0x7E) == 1)
+}
+
+fn open(flags: u8, address: u8) -> bool {
     let facts = Facts {
         flags,
         legacy: [0; 16],
@@ -58,10 +64,11 @@ fn never_open(flags: u8) -> bool {
 fn passes(test: Test, byte: u8) -> bool {
     match test {
         Test::Ninth => ninth(byte),
-        Test::Turns(k) => turns(byte, k),
-        Test::Stays(k) => parity::flipped(byte, k) == byte,
+        Test::Turns(k) => turns(k, byte),
+        Test::Stays(k) => parity::flipped(k, byte) == byte,
         Test::Offer => offer(byte),
         Test::Class(class) => slots::class_of(byte) == class,
+        Test::Near => near(byte),
         Test::Open(flags) => open(flags, byte),
         Test::NeverOpen => never_open(byte),
     }

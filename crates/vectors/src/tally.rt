@@ -3,37 +3,32 @@ use libc::STDOUT_FILENO;
 
 pub struct Tally {
     pub right: u32,
-    pub of: u32,
+    pub all: u32,
 }
 
 impl Tally {
     pub fn new() -> Tally {
-        Tally { right: 0, of: 0 }
+        Tally { right: 0, all: 0 }
     }
 
-    // One number more: what came out for `of`, and what should have.
-    pub fn number(self, of: u32, got: u32, should: u32) -> Tally {
-        if got != should {
-            io::write_all(STDOUT_FILENO, b"  for ");
-            io::print_decimal(STDOUT_FILENO, of as u64);
-            io::write_all(STDOUT_FILENO, b": ");
-            io::print_decimal(STDOUT_FILENO, got as u64);
-            io::write_all(STDOUT_FILENO, b", should be ");
-            io::print_decimal(STDOUT_FILENO, should as u64);
-            io::write_all(STDOUT_FILENO, b"\n");
+    // One number more: what was asked, what came out, and what should have.
+    pub fn number(self, asked: u32, got: u32, should: u32) -> Tally {
+        if got == should {
+            return Tally {
+                right: one_more(self.right),
+                all: one_more(self.all),
+            };
         }
-        self.counted(got == should)
-    }
-
-    // One more, right or wrong.
-    pub fn counted(self, right: bool) -> Tally {
+        io::write_all(STDOUT_FILENO, b"  asked ");
+        io::print_decimal(STDOUT_FILENO, asked as u64);
+        io::write_all(STDOUT_FILENO, b": ");
+        io::print_decimal(STDOUT_FILENO, got as u64);
+        io::write_all(STDOUT_FILENO, b", should be ");
+        io::print_decimal(STDOUT_FILENO, should as u64);
+        io::write_all(STDOUT_FILENO, b"\n");
         Tally {
-            right: if right {
-                one_more(self.right)
-            } else {
-                self.right
-            },
-            of: one_more(self.of),
+            right: self.right,
+            all: one_more(self.all),
         }
     }
 
@@ -41,14 +36,14 @@ impl Tally {
     pub fn report(self, group: &[u8]) {
         io::print_decimal(STDOUT_FILENO, self.right as u64);
         io::write_all(STDOUT_FILENO, b" of ");
-        io::print_decimal(STDOUT_FILENO, self.of as u64);
+        io::print_decimal(STDOUT_FILENO, self.all as u64);
         io::write_all(STDOUT_FILENO, b": ");
         io::write_all(STDOUT_FILENO, group);
         io::write_all(STDOUT_FILENO, b"\n");
     }
 }
 
-// The next number, as far as a million.
+// The next number. It stops at a million, which no group reaches, so that no sum can wrap.
 fn one_more(n: u32) -> u32 {
     if n < 1000000 { n + 1 } else { n }
 }
