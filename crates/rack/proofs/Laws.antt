@@ -1,4 +1,4 @@
--- The two numbers that C takes out of one are the two that were put in.
+-- Laws of the numbers that C is handed.
 use Prim.Native.Nat.{ℕ, _/_, _%_, _<_}
 use mathlib.Core.Path.{_≡_, refl}
 use mathlib.Core.Bool.{Bool, true, false, cond}
@@ -6,6 +6,7 @@ use mir.Val.{boolByte}
 use native.Mathlib.Omega.{arith}
 use Rattle.rack.specs.Packed.{packed}
 
+-- the two numbers that C takes out of one are the two that were put in
 pub unpacked : (refusal value : ℕ) → value < 65536 → (packed refusal value / 65536 ≡ refusal) × (packed refusal value % 65536 ≡ value)
 unpacked refusal value h = (omega arith, omega arith)
 
