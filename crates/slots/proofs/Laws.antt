@@ -34,10 +34,6 @@ class-above a h =
       ne-eqb a 0x7D (λ e. omega (arith, e)),
     )
 
-pub legacy-above : (legacy : List ℕ) (a : ℕ) → length legacy ≡ 16 → 128 ≤ a → isLegacy legacy a ≡ false
-unfolding isLegacy
-legacy-above legacy a e h = rw (List·getD-eq-default legacy 0 {n = a / 8} (omega arith)) (bit-of-zero (a % 8))
-
 -- ---- a right legacy set, by its first and last byte
 
 module _ (legacy : List ℕ) where
@@ -45,6 +41,10 @@ module _ (legacy : List ℕ) where
   not-legacy : (a : ℕ) → getD legacy (a / 8) 0 ≡ 0 → isLegacy legacy a ≡ false
   unfolding isLegacy
   not-legacy a e = rw e (bit-of-zero (a % 8))
+
+  -- nor is there one above 7Fh
+  pub legacy-above : (a : ℕ) → length legacy ≡ 16 → 128 ≤ a → isLegacy legacy a ≡ false
+  legacy-above a e h = not-legacy a (List·getD-eq-default legacy 0 {n = a / 8} (omega arith))
 
   -- and a byte that holds none is 0
   empty-byte : (i : ℕ) → getD legacy i 0 < 256 → ((k : ℕ) → k < 8 → isLegacy legacy (i * 8 + k) ≡ false) → getD legacy i 0 ≡ 0
@@ -65,16 +65,13 @@ module _ (legacy : List ℕ) where
   lies-right : getD legacy 0 0 ≡ 0 → getD legacy 15 0 ≡ 0 → (a : ℕ) → a < 128 → liesRight legacy a ≡ true
   lies-right first last a h = go (ltb a 8) refl (leb a 0x77) refl
     where
+      empty : getD legacy (a / 8) 0 ≡ 0 → liesRight legacy a ≡ true
+      empty z = let none : isLegacy legacy a ≡ false = not-legacy a z in rw none
+
       go : (b : Bool) → ltb a 8 ≡ b → (d : Bool) → leb a 0x77 ≡ d → liesRight legacy a ≡ true
-      go true e d f =
-          let z : a / 8 ≡ 0 = omega (arith, ltb-true a 8 e) in
-          let none : isLegacy legacy a ≡ false = not-legacy a (rw z first) in
-          rw none
+      go true e d f = let z : a / 8 ≡ 0 = omega (arith, ltb-true a 8 e) in empty (rw z first)
       go false e true f = rw (le-leb 0x08 a (ltb-false a 8 e), f) (or-true (not (isLegacy legacy a)))
-      go false e false f =
-          let z : a / 8 ≡ 15 = omega (arith, leb-false a 0x77 f) in
-          let none : isLegacy legacy a ≡ false = not-legacy a (rw z last) in
-          rw none
+      go false e false f = let z : a / 8 ≡ 15 = omega (arith, leb-false a 0x77 f) in empty (rw z last)
 
   module _ (long : length legacy ≡ 16) (small0 : getD legacy 0 0 < 256) (small15 : getD legacy 15 0 < 256) where
     pub legacy-bytes : (eqb (getD legacy 0 0) 0 && eqb (getD legacy 15 0) 0) ≡ legacyRight legacy
@@ -105,10 +102,6 @@ module _ (f : Facts) where
   unfolding checked
   checked-no h = rw h
 
-  checked-right : checked f .right ≡ factsRight f
-  unfolding checked
-  checked-right = refl
-
 -- a legacy set that isn't 16 bytes is not right
 pub legacy-length : (flags : ℕ) (legacy : List ℕ) (last : ℕ) → (length legacy ≡ 16 → ⊥) → factsRight (factsOf flags legacy last) ≡ false
 unfolding factsRight legacyRight
@@ -118,7 +111,8 @@ legacy-length flags legacy last h = rw (ne-eqb (length legacy) 16 h, and-false)
 
 module _ (f : Facts) (a : ℕ) (r : Checked) (e : r ≡ checked f) where
   right : r .right ≡ factsRight f
-  right = ap (λ (q : Checked). q .right) e ∙ checked-right f
+  unfolding checked
+  right = ap (λ (q : Checked). q .right) e
 
   pub slot-wrong-facts : not (r .right) ≡ true → record { refusal = 1; «open» = false } ≡ slotTest f a
   unfolding slotTest

@@ -15,7 +15,7 @@ use Rattle.slots.specs.declared.SlotAnswer.{SlotAnswer}
 -- ---- classes
 
 -- 0 barred: reserved; 1 barred: one bit away from 7Eh; 2 open only with flag value 2; 3 closed with flag value 1; 4 open;
--- 5 and 6 closed, 7Dh by itself. A number above 7Fh is no address, and has the number 7.
+-- 5 closed: 78h, 79h, 7Bh; 6 closed: 7Dh. A number above 7Fh is no address, and has the number 7.
 unfoldable pub classOf : ℕ → ℕ
 classOf address =
     cond (oneOf (0x00 ∷ 0x01 ∷ 0x02 ∷ 0x7E ∷ []) address) 0

@@ -1,5 +1,6 @@
 // The 128 address slots, the bus facts, and the slot test.
 ghost use mathlib.Core.Path.{_≡_};
+ghost use mathlib.Core.Bool.{false};
 ghost use lib.ListN.{length};
 ghost use Rattle.slots.specs.Slots.{classOf, factsOf, refusedFacts, checked, isLegacy, legacyRight, factsRight, isOpen, slotTest};
 ghost use Rattle.slots.specs.Slots.{allows as Slots·allows};
@@ -106,14 +107,17 @@ fn sixteen(legacy: &[u8]) -> [u8; 16]
     bytes
 }
 
-// The facts of a refused start: flags 0, no legacy, no ticket left.
-fn refused_facts() -> Facts
-    ensures { λ r. ⌜ r ≡ refusedFacts ⌝ }
+// Facts that were not right: in their stead those of a refused start, flags 0, no legacy, no ticket left.
+fn refused() -> Checked
+    ensures { λ r. ⌜ r ≡ record { right = false; facts = refusedFacts } ⌝ }
 {
-    Facts {
-        flags: 0,
-        legacy: [0; 16],
-        last: 4294967295,
+    Checked {
+        right: false,
+        facts: Facts {
+            flags: 0,
+            legacy: [0; 16],
+            last: 4294967295,
+        },
     }
 }
 
@@ -122,10 +126,7 @@ pub fn checked_facts(flags: u8, legacy: &[u8], last: u32) -> Checked
     ensures { λ r. ⌜ r ≡ checked (factsOf flags (now (legacy .entry)) last) ⌝ }
 {
     if legacy.len() != 16 {
-        return Checked {
-            right: false,
-            facts: refused_facts(),
-        };
+        return refused();
     }
     let given = Facts {
         flags,
@@ -138,10 +139,7 @@ pub fn checked_facts(flags: u8, legacy: &[u8], last: u32) -> Checked
             facts: given,
         }
     } else {
-        Checked {
-            right: false,
-            facts: refused_facts(),
-        }
+        refused()
     }
 }
 

@@ -54,31 +54,24 @@ pub fn frames() {
     t.report(b"headers and answers (000 D.1, 5.1.5)");
 }
 
-// An address of one 1 and an address of two, as a header, as data and as an offer, answered.
+// An address in its three roles, as an answered header, as data and as an accepted offer.
+fn role(t: Tally, address: u8, header: u32, data: u32, offer: u32) -> Tally {
+    let asked = address as u32;
+    let byte = parity::write_byte(address);
+    let u = t.number(asked, parity::answer_cell(byte, true) as u32, header);
+    let v = u.number(asked, parity::data_cell(byte) as u32, data);
+    v.number(
+        asked,
+        parity::answer_cell(parity::offered_byte(address), true) as u32,
+        offer,
+    )
+}
+
+// With a single 1 the three are the same cell; with two ones each is another.
 pub fn roles() {
     let mut t = Tally::new();
-    t = t.number(
-        0x08,
-        parity::answer_cell(parity::write_byte(0x08), true) as u32,
-        32,
-    );
-    t = t.number(0x08, parity::data_cell(parity::write_byte(0x08)) as u32, 32);
-    t = t.number(
-        0x08,
-        parity::answer_cell(parity::offered_byte(0x08), true) as u32,
-        32,
-    );
-    t = t.number(
-        0x09,
-        parity::answer_cell(parity::write_byte(0x09), true) as u32,
-        36,
-    );
-    t = t.number(0x09, parity::data_cell(parity::write_byte(0x09)) as u32, 37);
-    t = t.number(
-        0x09,
-        parity::answer_cell(parity::offered_byte(0x09), true) as u32,
-        38,
-    );
+    t = role(t, 0x08, 32, 32, 32);
+    t = role(t, 0x09, 36, 37, 38);
     t.report(b"08h and 09h as header, data and offer (by 01's rules)");
 }
 

@@ -5,13 +5,13 @@ use Rattle.slots.proofs.Laws.{checked-yes, checked-no, legacy-length}
 use Rattle.slots.proofs.checked_facts.Statement.{statement}
 use Rattle.slots.proofs.checked_facts.Tie as tie
 
-refused-facts-requires : tie.Need-refused-facts-requires
-refused-facts-requires c κs = search needs
+refused-requires : tie.Need-refused-requires
+refused-requires c κs = search needs
 
 returns : tie.Need-returns
 returns c =
     let a = c .before .before .before .args in
-    rw (c .refused-facts .ensures) (checked-no _ (legacy-length (a .flags) (a .legacy .now) (a .last) (c .before .if1 .taken)))
+    rw (c .refused .ensures) (checked-no _ (legacy-length (a .flags) (a .legacy .now) (a .last) (c .before .if1 .taken)))
 
 sixteen-requires : tie.Need-sixteen-requires
 sixteen-requires c κs = search needs
@@ -19,8 +19,8 @@ sixteen-requires c κs = search needs
 facts-right-requires : tie.Need-facts-right-requires
 facts-right-requires c κs = search needs
 
-refused-facts-requires-2 : tie.Need-refused-facts-requires-2
-refused-facts-requires-2 c κs = search needs
+refused-requires-2 : tie.Need-refused-requires-2
+refused-requires-2 c κs = search needs
 
 returns-2 : tie.Need-returns-2
 returns-2 c =
@@ -30,16 +30,16 @@ returns-2 c =
 returns-3 : tie.Need-returns-3
 returns-3 c =
     let bytes = c .before .before .before .sixteen .ensures in
-    rw (c .refused-facts2 .ensures) (checked-no _ (rw bytes at (sym (c .before .before .facts-right .ensures) ∙ c .before .if2 .left)))
+    rw (c .refused2 .ensures) (checked-no _ (rw bytes at (sym (c .before .before .facts-right .ensures) ∙ c .before .if2 .left)))
 
 pub checked-facts-spec : {M : Type 1} → statement M
 checked-facts-spec =
     tie.close
     (tie.spec
-    refused-facts-requires
+    refused-requires
     returns
     sixteen-requires
     facts-right-requires
-    refused-facts-requires-2
+    refused-requires-2
     returns-2
     returns-3)
