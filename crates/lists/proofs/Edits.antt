@@ -1,6 +1,6 @@
--- What a loop needs of an element put in (`insertBy`) and of one taken out (`deleteBy`): the list in three parts, and the invariants of
+-- What a loop needs of an element put in (`insertBy`) and of one taken out (`removeAt`): the list in three parts, and the invariants of
 -- the loops that fill, shift, close up and copy.
-use Prim.Native.Nat.{ℕ, suc, _+_, _-_, _<_, _≤_}
+use Prim.Native.Nat.{ℕ, zero, suc, _+_, _-_, _<_, _≤_}
 use mathlib.Core.Path.{_≡_, refl, ap, _∙_, sym}
 use mathlib.Core.Bool.{Bool, true, false, cond}
 use mathlib.Core.List.{List, [], _∷_, _++_}
@@ -8,7 +8,7 @@ use native.Mathlib.Omega.{arith}
 use native.Mathlib.Numerals.{add-one}
 use lib.ListN.{List·getD-append, length, getD, drop, take, set, length-append, length-take, length-drop, length-set}
 use lib.Seq.{set-at, append-snoc, take-suc, take-suc-set, take-all, take-at, getD-at, getD-append-add, getD-drop, drop-cons}
-use Rattle.lists.specs.Lists.{find, insertBy, deleteBy}
+use Rattle.lists.specs.Lists.{find, insertBy, removeAt}
 
 module _ {A : Type 0} where
   module _ (p : A → Bool) (x : A) where
@@ -20,21 +20,21 @@ module _ {A : Type 0} where
         go ih true = refl
         go ih false = ap (y ∷_) ih
 
-    pub delete-split : (l : List A) → find p l < length l → deleteBy p x l ≡ take (find p l) l ++ (drop (suc (find p l)) l ++ (x ∷ []))
-    delete-split [] h = absurd (omega arith)
-    delete-split (y ∷ ys) h = go (delete-split ys) (p y) h
-      where
-        go : (find p ys < length ys → deleteBy p x ys ≡ take (find p ys) ys ++ (drop (suc (find p ys)) ys ++ (x ∷ []))) → (b : Bool) → cond b 0 (suc (find p ys)) < suc (length ys) → cond b (ys ++ (x ∷ [])) (y ∷ deleteBy p x ys) ≡ take (cond b 0 (suc (find p ys))) (y ∷ ys) ++ (drop (suc (cond b 0 (suc (find p ys)))) (y ∷ ys) ++ (x ∷ []))
-        go ih true h = refl
-        go ih false h = ap (y ∷_) (ih (omega arith))
+  pub remove-split : (k : ℕ) (z : A) (l : List A) → k < length l → removeAt k z l ≡ take k l ++ (drop (suc k) l ++ (z ∷ []))
+  remove-split k z [] h = absurd (omega arith)
+  remove-split zero z (y ∷ ys) h = refl
+  remove-split (suc k) z (y ∷ ys) h = ap (y ∷_) (remove-split k z ys (omega arith))
 
-    pub delete-none : (l : List A) → length l ≤ find p l → deleteBy p x l ≡ l
-    delete-none [] h = refl
-    delete-none (y ∷ ys) h = go (delete-none ys) (p y) h
-      where
-        go : (length ys ≤ find p ys → deleteBy p x ys ≡ ys) → (b : Bool) → suc (length ys) ≤ cond b 0 (suc (find p ys)) → cond b (ys ++ (x ∷ [])) (y ∷ deleteBy p x ys) ≡ y ∷ ys
-        go ih true h = absurd (omega arith)
-        go ih false h = ap (y ∷_) (ih (omega arith))
+  pub remove-none : (k : ℕ) (z : A) (l : List A) → length l ≤ k → removeAt k z l ≡ l
+  remove-none k z [] h = refl
+  remove-none zero z (y ∷ ys) h = absurd (omega arith)
+  remove-none (suc k) z (y ∷ ys) h = ap (y ∷_) (remove-none k z ys (omega arith))
+
+  -- an element set at a place that the list has not
+  pub set-none : (l : List A) (k : ℕ) (x : A) → length l ≤ k → set l k x ≡ l
+  set-none [] k x h = refl
+  set-none (y ∷ ys) zero x h = absurd (omega arith)
+  set-none (y ∷ ys) (suc k) x h = ap (y ∷_) (set-none ys k x (omega arith))
 
   -- a loop that fills out from the front until it is the first n of t
   pub record Filled (t out : List A) (n i : ℕ) : Type 0 where
@@ -110,71 +110,72 @@ module _ {A : Type 0} where
     pub shift-ended : Shifting p x l out held d n i → n ≤ i → out ≡ take n (insertBy p x l)
     shift-ended s b = filled-ended (s .filled) b
 
-  module _ (p : A → Bool) (z : A) (l : List A) (h : find p l < length l) where
-    pub length-delete : length (deleteBy p z l) ≡ length l
-    length-delete = rw (delete-split p z l h, length-append, length-front p z l, length-append, length-drop) (omega arith)
+  module _ (k : ℕ) (z : A) (l : List A) (h : k < length l) where
+    length-kept : length (take k l) ≡ k
+    length-kept = rw (length-take) (omega arith)
 
-    delete-front : take (find p l) l ≡ take (find p l) (deleteBy p z l)
-    delete-front = rw (delete-split p z l h) (sym (take-at (take (find p l) l) (drop (suc (find p l)) l ++ (z ∷ [])) (find p l) (length-front p z l)))
+    pub length-remove : length (removeAt k z l) ≡ length l
+    length-remove = rw (remove-split k z l h, length-append, length-kept, length-append, length-drop) (omega arith)
 
-    delete-past : (i : ℕ) (d : A) → find p l ≤ i → i + 1 < length l → getD l (i + 1) d ≡ getD (deleteBy p z l) i d
-    delete-past i d a b =
-        let k = find p l in
-        let e : i ≡ length (take k l) + (i - k) = omega (arith, length-front p z l) in
+    remove-front : take k l ≡ take k (removeAt k z l)
+    remove-front = rw (remove-split k z l h) (sym (take-at (take k l) (drop (suc k) l ++ (z ∷ [])) k length-kept))
+
+    remove-past : (i : ℕ) (d : A) → k ≤ i → i + 1 < length l → getD l (i + 1) d ≡ getD (removeAt k z l) i d
+    remove-past i d a b =
+        let e : i ≡ length (take k l) + (i - k) = omega (arith, length-kept) in
         let s : i - k < length (drop (suc k) l) = rw length-drop (omega arith) in
         let f : suc k + (i - k) ≡ i + 1 = omega arith in
         sym
-        (ap (λ (m : List A). getD m i d) (delete-split p z l h) ∙
+        (ap (λ (m : List A). getD m i d) (remove-split k z l h) ∙
         ap (λ (j : ℕ). getD (take k l ++ (drop (suc k) l ++ (z ∷ []))) j d) e ∙
         getD-append-add (take k l) (drop (suc k) l ++ (z ∷ [])) (i - k) d ∙
         List·getD-append (drop (suc k) l) (z ∷ []) d (i - k) s ∙
         getD-drop (suc k) l (i - k) d ∙
         ap (λ (j : ℕ). getD l j d) f)
 
-    delete-last : (i : ℕ) (d : A) → i + 1 ≡ length l → z ≡ getD (deleteBy p z l) i d
-    delete-last i d e =
-        let k = find p l in
-        let q : i ≡ length (take k l) + length (drop (suc k) l) = rw (length-front p z l, length-drop) (omega arith) in
+    remove-last : (i : ℕ) (d : A) → i + 1 ≡ length l → z ≡ getD (removeAt k z l) i d
+    remove-last i d e =
+        let q : i ≡ length (take k l) + length (drop (suc k) l) = rw (length-kept, length-drop) (omega arith) in
         sym
-        (ap (λ (m : List A). getD m i d) (delete-split p z l h) ∙
+        (ap (λ (m : List A). getD m i d) (remove-split k z l h) ∙
         ap (λ (j : ℕ). getD (take k l ++ (drop (suc k) l ++ (z ∷ []))) j d) q ∙
         getD-append-add (take k l) (drop (suc k) l ++ (z ∷ [])) (length (drop (suc k) l)) d ∙
         getD-at (drop (suc k) l) z [] d (length (drop (suc k) l)) refl)
 
-  -- a loop that moves what follows the found element down by one; the last place is written after it
-  pub record Closing (p : A → Bool) (z : A) (l out : List A) (n i : ℕ) : Type 0 where
-    pub filled : Filled (deleteBy p z l) out n i
+  -- a loop that moves what follows the element at k down by one; the last place is written after it
+  pub record Closing (k : ℕ) (z : A) (l out : List A) (n i : ℕ) : Type 0 where
+    pub filled : Filled (removeAt k z l) out n i
     pub size : length l ≡ n
-    pub past : find p l ≤ i
+    pub past : k ≤ i
     pub short : i < n
 
-  module _ {p : A → Bool} {z : A} {l : List A} {n i : ℕ} where
-    pub close-start : length l ≡ n → i ≡ find p l → (i ≡ n → ⊥) → Closing p z l l n i
-    close-start e f ne =
-        let h : find p l < length l = omega (arith, find-le p l) in
-        rw f record {
-          filled = record { len = e; enough = omega (arith, length-delete p z l h); inside = omega arith; same = delete-front p z l h };
+  module _ {k : ℕ} {z : A} {l : List A} {n : ℕ} where
+    pub close-start : length l ≡ n → k < n → Closing k z l l n k
+    close-start e b =
+        let h : k < length l = omega arith in
+        record {
+          filled = record { len = e; enough = omega (arith, length-remove k z l h); inside = omega arith; same = remove-front k z l h };
           size = e;
           past = omega arith;
-          short = omega arith;
+          short = b;
         }
 
-  module _ {p : A → Bool} {z : A} {l out : List A} {n i : ℕ} where
-    pub close-turn : Closing p z l out n i → i + 1 < n → (d : A) → Closing p z l (set out i (getD l (i + 1) d)) n (i + 1)
+  module _ {k : ℕ} {z : A} {l out : List A} {n i : ℕ} where
+    pub close-turn : Closing k z l out n i → i + 1 < n → (d : A) → Closing k z l (set out i (getD l (i + 1) d)) n (i + 1)
     close-turn s b d = record {
-      filled = filled-turn (s .filled) (omega arith) (getD l (i + 1) d) d (delete-past p z l (omega arith) i d (s .past) (omega arith));
+      filled = filled-turn (s .filled) (omega arith) (getD l (i + 1) d) d (remove-past k z l (omega arith) i d (s .past) (omega arith));
       size = s .size;
       past = omega arith;
       short = b;
     }
 
-    pub close-ended : Closing p z l out n i → (k : ℕ) → k + 1 ≡ n → n ≤ i + 1 → set out k z ≡ deleteBy p z l
-    close-ended s k e b =
-        let h : find p l < length l = omega arith in
-        let q : k ≡ i = omega arith in
-        rw q
-        (filled-ended (filled-turn (s .filled) (s .short) z z (delete-last p z l h i z (omega arith))) (omega arith) ∙
-        take-all n (deleteBy p z l) (omega (arith, length-delete p z l h)))
+    pub close-ended : Closing k z l out n i → (e : ℕ) → e + 1 ≡ n → n ≤ i + 1 → set out e z ≡ removeAt k z l
+    close-ended s e q b =
+        let h : k < length l = omega arith in
+        let here : e ≡ i = omega arith in
+        rw here
+        (filled-ended (filled-turn (s .filled) (s .short) z z (remove-last k z l h i z (omega arith))) (omega arith) ∙
+        take-all n (removeAt k z l) (omega (arith, length-remove k z l h)))
 
   -- a loop that copies the first n of s to the front of d, which then is l
   pub record Copied (s d l : List A) (n i : ℕ) : Type 0 where

@@ -1,12 +1,14 @@
 -- What all and pairwise say of parts of a list, and that they stay when an element is put in, replaced, taken out or cut off; what it
 -- means that something was found.
 use Prim.Native.Nat.{ℕ, zero, suc, _<_, _≤_}
-use mathlib.Core.Path.{_≡_, refl, sym}
+use mathlib.Core.Path.{_≡_, refl, sym, _∙_}
 use mathlib.Core.Bool.{Bool, true, false, cond, not, _&&_, _||_}
 use mathlib.Core.List.{List, [], _∷_, _++_}
 use native.Mathlib.Omega.{arith}
+use lib.Dec.{ltb, leb·suc-suc}
 use lib.ListN.{length, getD, take, set}
-use Rattle.lists.specs.Lists.{any, all, pairwise, find, insertBy, deleteBy}
+use Rattle.lists.specs.Lists.{any, all, pairwise, find, insertBy, removeAt}
+use borrow.Author.Tests.{lt-ltb}
 use Rattle.lists.proofs.Bools.{both, and}
 
 module _ {A : Type 0} where
@@ -48,6 +50,15 @@ module _ {A : Type 0} where
       go ih true e k = e
       go ih false e k = ih (omega arith)
 
+  -- some element passes exactly where one is found
+  pub any-find : (p : A → Bool) (l : List A) → any p l ≡ ltb (find p l) (length l)
+  any-find p [] = refl
+  any-find p (y ∷ ys) = go (any-find p ys) (p y)
+    where
+      go : any p ys ≡ ltb (find p ys) (length ys) → (b : Bool) → (b || any p ys) ≡ ltb (cond b 0 (suc (find p ys))) (suc (length ys))
+      go ih true = sym (lt-ltb 0 (suc (length ys)) (omega arith))
+      go ih false = ih ∙ sym (leb·suc-suc (suc (find p ys)) (length ys))
+
   pub none-any : (p : A → Bool) (l : List A) → any p l ≡ false → all (λ y. not (p y)) l ≡ true
   none-any p [] h = refl
   none-any p (y ∷ ys) h = go (none-any p ys) (p y) h
@@ -73,13 +84,10 @@ module _ {A : Type 0} where
   all-snoc p x e [] h = and e refl
   all-snoc p x e (y ∷ ys) h = and (both (p y) (all p ys) h .0) (all-snoc p x e ys (both (p y) (all p ys) h .1))
 
-  pub all-delete : (p q : A → Bool) (x : A) → p x ≡ true → (l : List A) → all p l ≡ true → all p (deleteBy q x l) ≡ true
-  all-delete p q x e [] h = refl
-  all-delete p q x e (y ∷ ys) h = go (all-delete p q x e ys (both (p y) (all p ys) h .1)) (q y)
-    where
-      go : all p (deleteBy q x ys) ≡ true → (b : Bool) → all p (cond b (ys ++ (x ∷ [])) (y ∷ deleteBy q x ys)) ≡ true
-      go ih true = all-snoc p x e ys (both (p y) (all p ys) h .1)
-      go ih false = and (both (p y) (all p ys) h .0) ih
+  pub all-remove : (p : A → Bool) (x : A) → p x ≡ true → (l : List A) (k : ℕ) → all p l ≡ true → all p (removeAt k x l) ≡ true
+  all-remove p x e [] k h = refl
+  all-remove p x e (y ∷ ys) zero h = all-snoc p x e ys (both (p y) (all p ys) h .1)
+  all-remove p x e (y ∷ ys) (suc k) h = and (both (p y) (all p ys) h .0) (all-remove p x e ys k (both (p y) (all p ys) h .1))
 
   module _ (r : A → A → Bool) where
     pub pairwise-snoc : (x : A) (l : List A) → all (λ y. r y x) l ≡ true → pairwise r l ≡ true → pairwise r (l ++ (x ∷ [])) ≡ true
@@ -90,14 +98,13 @@ module _ {A : Type 0} where
         and (all-snoc (r y) x (hy .0) ys (wy .0)) (pairwise-snoc x ys (hy .1) (wy .1))
 
     -- an element goes, and x, which may stand behind every one, comes to the end
-    pub pairwise-delete : (q : A → Bool) (x : A) (l : List A) → all (λ y. r y x) l ≡ true → pairwise r l ≡ true → pairwise r (deleteBy q x l) ≡ true
-    pairwise-delete q x [] h w = refl
-    pairwise-delete q x (y ∷ ys) h w =
-        go (pairwise-delete q x ys (both (r y x) (all (λ z. r z x) ys) h .1) (both (all (r y) ys) (pairwise r ys) w .1)) (q y)
-      where
-        go : pairwise r (deleteBy q x ys) ≡ true → (b : Bool) → pairwise r (cond b (ys ++ (x ∷ [])) (y ∷ deleteBy q x ys)) ≡ true
-        go ih true = pairwise-snoc x ys (both (r y x) (all (λ z. r z x) ys) h .1) (both (all (r y) ys) (pairwise r ys) w .1)
-        go ih false = and (all-delete (r y) q x (both (r y x) (all (λ z. r z x) ys) h .0) ys (both (all (r y) ys) (pairwise r ys) w .0)) ih
+    pub pairwise-remove : (x : A) (l : List A) (k : ℕ) → all (λ y. r y x) l ≡ true → pairwise r l ≡ true → pairwise r (removeAt k x l) ≡ true
+    pairwise-remove x [] k h w = refl
+    pairwise-remove x (y ∷ ys) zero h w = pairwise-snoc x ys (both (r y x) (all (λ z. r z x) ys) h .1) (both (all (r y) ys) (pairwise r ys) w .1)
+    pairwise-remove x (y ∷ ys) (suc k) h w =
+        let hy = both (r y x) (all (λ z. r z x) ys) h in
+        let wy = both (all (r y) ys) (pairwise r ys) w in
+        and (all-remove (r y) x (hy .0) ys k (wy .0)) (pairwise-remove x ys k (hy .1) (wy .1))
 
     pub pairwise-take : (n : ℕ) (l : List A) → pairwise r l ≡ true → pairwise r (take n l) ≡ true
     pairwise-take zero l h = refl

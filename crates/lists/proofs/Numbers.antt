@@ -1,13 +1,13 @@
 -- Laws of numbers in a row: what holds of each of them, and the first that passes a test with the invariant of the loop that looks for it.
 use Prim.Native.Nat.{ℕ, zero, suc, _+_, _-_, _<_, _≤_}
 use mathlib.Core.Path.{_≡_, refl, ap, _∙_, sym}
-use mathlib.Core.Bool.{Bool, true, false, cond, and-false}
+use mathlib.Core.Bool.{Bool, true, false, cond, not, _||_, and-false, true≢false}
 use mathlib.Core.List.{List, [], _∷_}
 use native.Mathlib.Omega.{arith}
 use native.Mathlib.Numerals.{add-one}
-use lib.Dec.{ltb, leb}
+use lib.Dec.{eqb, ltb, leb}
 use borrow.Author.Tests.{ltb-true, lt-leb, ne-eqb}
-use Rattle.lists.specs.Lists.{all}
+use Rattle.lists.specs.Lists.{any, all}
 use Rattle.lists.specs.Numbers.{numbers, first, within, oneOf}
 use Rattle.lists.proofs.Bools.{both, and}
 
@@ -63,6 +63,16 @@ first-passes p a (suc k) h = go (first-passes p (suc a) k) (p a) refl h
     go : ((first p (suc a) k ≡ 0 → ⊥) → p (first p (suc a) k) ≡ true) → (b : Bool) → p a ≡ b → (cond b a (first p (suc a) k) ≡ 0 → ⊥) → p (cond b a (first p (suc a) k)) ≡ true
     go ih true e n = e
     go ih false e n = ih n
+
+-- where 0 does not pass, it is 0 exactly when none passes
+pub first-none : (p : ℕ → Bool) → p 0 ≡ false → (a k : ℕ) → eqb (first p a k) 0 ≡ not (any p (numbers a k))
+unfolding first numbers
+first-none p z a zero = refl
+first-none p z a (suc k) = go (first-none p z (suc a) k) (p a) refl
+  where
+    go : eqb (first p (suc a) k) 0 ≡ not (any p (numbers (suc a) k)) → (b : Bool) → p a ≡ b → eqb (cond b a (first p (suc a) k)) 0 ≡ not (b || any p (numbers (suc a) k))
+    go ih true e = ne-eqb a 0 (λ (n : a ≡ 0). true≢false (sym (rw n at e) ∙ z))
+    go ih false e = ih
 
 -- ---- outside a row, or above a list
 

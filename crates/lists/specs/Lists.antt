@@ -1,5 +1,5 @@
 -- Definitions over a list, by tests on its elements. (The library's `any` and `all` do not compute outside their own module.)
-use Prim.Native.Nat.{ℕ, suc}
+use Prim.Native.Nat.{ℕ, zero, suc}
 use mathlib.Core.Bool.{Bool, true, false, cond, _&&_, _||_}
 use mathlib.Core.List.{List, [], _∷_, _++_}
 
@@ -34,7 +34,8 @@ module _ {A : Type 0} where
   insertBy p x [] = x ∷ []
   insertBy p x (y ∷ ys) = cond (p y) (x ∷ y ∷ ys) (y ∷ insertBy p x ys)
 
-  -- the first element that passes the test taken out, and z put at the end in its stead: as many elements; as it was if none passes
-  abbrev pub deleteBy : (A → Bool) → A → List A → List A
-  deleteBy p z [] = []
-  deleteBy p z (y ∷ ys) = cond (p y) (ys ++ (z ∷ [])) (y ∷ deleteBy p z ys)
+  -- the element at a place taken out, and z put at the end in its stead: as many elements; as it was if there is no such place
+  abbrev pub removeAt : ℕ → A → List A → List A
+  removeAt k z [] = []
+  removeAt zero z (y ∷ ys) = ys ++ (z ∷ [])
+  removeAt (suc k) z (y ∷ ys) = y ∷ removeAt k z ys
