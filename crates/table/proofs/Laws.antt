@@ -1,28 +1,18 @@
--- Laws of the table: 0 is never free, so that it may say that no address is; the ways of a ticket's refusal.
+-- Laws of the table: the ways of a ticket's refusal.
 use Prim.Native.Nat.{ℕ, _≤_, _<_}
-use mathlib.Core.Path.{_≡_, refl}
+use mathlib.Core.Path.{_≡_}
 use mathlib.Core.Bool.{true, false}
 use mathlib.Core.List.{List}
-use lib.Dec.{eqb, ltb}
+use lib.Dec.{ltb}
 use lib.ListN.{length}
 use borrow.Author.Tests.{lt-ltb, le-ltb}
 use Rattle.lists.proofs.Keeps.{any-find}
-use Rattle.lists.proofs.Numbers.{first-none}
-use Rattle.slots.specs.Slots.{classOf, allows, isOpen}
 use Rattle.slots.specs.declared.Facts.{Facts}
 use Rattle.rows.specs.Rows.{hasTicket, holdsTicket, placeOfTicket}
 use Rattle.rows.specs.declared.Row.{Row}
-use Rattle.table.specs.Free.{isFree, lowestFree, noFreeAddress, ticketUnknown, ticketRefusal}
+use Rattle.table.specs.Tickets.{ticketUnknown, ticketRefusal}
 
 module _ (f : Facts) (rows : List Row) where
-  zero-not-free : isFree f rows 0 ≡ false
-  unfolding isFree isOpen allows classOf
-  zero-not-free = refl
-
-  pub lowest-none : eqb (lowestFree f rows) 0 ≡ noFreeAddress f rows
-  unfolding lowestFree noFreeAddress
-  lowest-none = first-none (isFree f rows) zero-not-free 0x00 128
-
   -- the ways of a ticket's refusal: unknown; known, with a place or with none
   module _ (t : ℕ) where
     pub ticket-unknown : ticketUnknown f t ≡ true → 8 ≡ ticketRefusal f rows t

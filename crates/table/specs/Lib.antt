@@ -1,2 +1,2 @@
-pub mod Free
+pub mod Tickets
 pub mod Sound

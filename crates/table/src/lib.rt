@@ -1,12 +1,11 @@
-// The table: bus facts and rows together. What it has left to give, and whether it keeps the rules.
+// The table: bus facts and rows together, its tickets, and whether it keeps the rules.
 ghost use mathlib.Core.Path.{_≡_};
 ghost use Prim.Native.Nat.{_+_, _<_};
 ghost use lib.ListN.{getD, drop};
 ghost use Rattle.lists.specs.Lists.{all, pairwise};
 ghost use Rattle.rows.specs.Rows.{noRow};
-ghost use Rattle.table.specs.Free.{isFree, lowestFree, addressFor, noFreeAddress, canAssign, ticketRefusal};
-ghost use Rattle.table.specs.Free.{full as Free·full};
-ghost use Rattle.table.specs.Sound.{staticOpen, usedRight, rowRight, inOrder, sound};
+ghost use Rattle.table.specs.Tickets.{ticketRefusal};
+ghost use Rattle.table.specs.Sound.{staticAllowed, usedRight, rowRight, inOrder, sound};
 ghost use Rattle.table.specs.Sound.{distinct as Sound·distinct};
 use rows::Row;
 use slots::Facts;
@@ -15,67 +14,6 @@ use slots::Facts;
 pub const TICKET_UNKNOWN: u8 = 8;
 
 pub const TICKET_RETIRED: u8 = 9;
-
-// The highest ticket: after it there is none left.
-pub const LAST_TICKET: u32 = 4294967295;
-
-// Whether an address is free: open, and no row holds it.
-pub fn is_free(f: Facts, rows: [Row; 32], address: u8) -> bool
-    ensures { λ r. ⌜ r ≡ isFree f rows address ⌝ }
-{
-    if slots::is_open(f, address) {
-        !rows::holds_address(rows, address)
-    } else {
-        false
-    }
-}
-
-// The lowest free address, 0 if none.
-pub fn lowest_free(f: Facts, rows: [Row; 32]) -> u8
-    ensures { λ r. ⌜ r ≡ lowestFree f rows ⌝ }
-{
-    let mut address: u8 = 0;
-    while address < 128 {
-        if is_free(f, rows, address) {
-            return address;
-        }
-        address += 1;
-    }
-    0
-}
-
-// The address that an identity is offered: that of the row which holds it, else the lowest free one.
-pub fn address_for(f: Facts, rows: [Row; 32], identity: u64) -> u8
-    ensures { λ r. ⌜ r ≡ addressFor f rows identity ⌝ }
-{
-    let place = rows::place_of_identity(rows, identity);
-    if place < 32 {
-        rows[place].address
-    } else {
-        lowest_free(f, rows)
-    }
-}
-
-// Whether there are 32 rows.
-pub fn full(rows: [Row; 32]) -> bool
-    ensures { λ r. ⌜ r ≡ Free·full rows ⌝ }
-{
-    !(rows::used_rows(rows) < 32)
-}
-
-// Whether no address is free.
-pub fn no_free_address(f: Facts, rows: [Row; 32]) -> bool
-    ensures { λ r. ⌜ r ≡ noFreeAddress f rows ⌝ }
-{
-    lowest_free(f, rows) == 0
-}
-
-// Whether one row more can be given: fewer than 32 rows, a free address, a ticket left.
-pub fn can_assign(f: Facts, rows: [Row; 32]) -> bool
-    ensures { λ r. ⌜ r ≡ canAssign f rows ⌝ }
-{
-    !full(rows) & !no_free_address(f, rows) & !(f.last == LAST_TICKET)
-}
 
 // The refusal of a ticket, 0 for none: unknown, then retired.
 pub fn ticket_refusal(f: Facts, rows: [Row; 32], ticket: u32) -> u8
@@ -92,8 +30,8 @@ pub fn ticket_refusal(f: Facts, rows: [Row; 32], ticket: u32) -> u8
 }
 
 // Whether a row may be set from this static address: 08h to 77h, and not legacy.
-pub fn static_open(f: Facts, address: u8) -> bool
-    ensures { λ r. ⌜ r ≡ staticOpen f address ⌝ }
+pub fn static_allowed(f: Facts, address: u8) -> bool
+    ensures { λ r. ⌜ r ≡ staticAllowed f address ⌝ }
 {
     let legacy = f.legacy;
     (0x08 <= address) & (address <= 0x77) & !slots::is_legacy(legacy, address)
@@ -106,7 +44,7 @@ fn used_right(f: Facts, r: Row) -> bool
     slots::is_open(f, r.address)
         & ((1 <= r.ticket) & (r.ticket <= f.last))
         & (!r.unknown | (r.identity == 0))
-        & ((r.from_static == 0) | static_open(f, r.from_static))
+        & ((r.from_static == 0) | static_allowed(f, r.from_static))
 }
 
 // Whether a place is right: a row that keeps the rules, or unused and all zero.

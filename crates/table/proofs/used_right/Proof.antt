@@ -7,11 +7,11 @@ use Rattle.table.proofs.used_right.Tie as tie
 is-open-requires : tie.Need-is-open-requires
 is-open-requires c κs = search needs
 
-static-open-requires : tie.Need-static-open-requires
-static-open-requires c κs = search needs
+static-allowed-requires : tie.Need-static-allowed-requires
+static-allowed-requires c κs = search needs
 
 returns : tie.Need-returns
 returns c = search same
 
 pub used-right-spec : {M : Type 1} → statement M
-used-right-spec = tie.close (tie.spec is-open-requires static-open-requires returns)
+used-right-spec = tie.close (tie.spec is-open-requires static-allowed-requires returns)
