@@ -4,6 +4,7 @@ use Prim.Native.Nat.{ℕ}
 use mathlib.Core.Path.{_≡_, refl, ap, _∙_, sym}
 use mathlib.Core.Bool.{Bool, true, false, cond, not, _&&_, _||_, and-eq-true-iff}
 use lib.Dec.{eqb, ltb, leb}
+use borrow.Author.Tests.{lt-ltb, le-ltb, eq-eqb, ne-eqb}
 
 -- ---- tests
 
@@ -22,6 +23,18 @@ agree false false f g = refl
 -- what a callee's result is by its contract, it is by the branch: for `search`, with a call's `.ensures` and a test's fact in reach
 pub via : {A : Type 0} {x y z : A} → x ≡ y → x ≡ z → y ≡ z
 via p q = sym p ∙ q
+
+-- ---- chains of tests
+
+-- what stands beside a test that passes, and what comes after one that does not
+pub here : {A : Type 0} {b : Bool} {x r : A} (y : A) → b ≡ true → r ≡ x → r ≡ cond b x y
+here y p q = rw (p, q)
+
+pub next : {A : Type 0} {b : Bool} (x : A) {y r : A} → b ≡ false → r ≡ y → r ≡ cond b x y
+next x p q = rw (p, q)
+
+-- for `search chain`: a function that returns at the first test that passes is the definition that asks the same tests
+pub ruleset chain = (here, next, via, lt-ltb, le-ltb, eq-eqb, ne-eqb)
 
 -- ---- congruences
 

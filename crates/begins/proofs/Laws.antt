@@ -1,0 +1,27 @@
+-- Laws of the refusals: a move asks for its ticket's two at once.
+use Prim.Native.Nat.{ℕ}
+use native.Mathlib.Omega.{arith}
+use mathlib.Core.Path.{_≡_}
+use mathlib.Core.Bool.{Bool, true, false, cond, not}
+use Rattle.lists.proofs.Bools.{here, next, via}
+use borrow.Author.Tests.{lt-ltb, le-ltb, eq-eqb, ne-eqb}
+
+-- a ticket that is refused is refused before more is asked
+pub ticket-refused : (unknown retired : Bool) {r : ℕ} (more : ℕ) → r ≡ cond unknown 8 (cond retired 9 0) → (r ≡ 0 → ⊥) → r ≡ cond unknown 8 (cond retired 9 more)
+ticket-refused true retired more e h = e
+ticket-refused false true more e h = e
+ticket-refused false false more e h = absurd (h e)
+
+-- with one that is not, more is asked
+pub ticket-right : (unknown retired : Bool) {r x more : ℕ} → r ≡ cond unknown 8 (cond retired 9 0) → r ≡ 0 → x ≡ more → x ≡ cond unknown 8 (cond retired 9 more)
+ticket-right true retired e z p = absurd (omega arith)
+ticket-right false true e z p = absurd (omega arith)
+ticket-right false false e z p = p
+
+pub told : {t b z : Bool} → t ≡ b → t ≡ z → b ≡ z
+told p q = via p q
+
+pub not-told : {t b z : Bool} → t ≡ b → not t ≡ z → not b ≡ z
+not-told p q = rw (← p) q
+
+pub ruleset chain = (here, next, told, not-told, lt-ltb, le-ltb, eq-eqb, ne-eqb)
