@@ -2,9 +2,7 @@
 use Prim.Native.Nat.{ℕ}
 use native.Mathlib.Omega.{arith}
 use mathlib.Core.Path.{_≡_}
-use mathlib.Core.Bool.{Bool, true, false, cond, not}
-use Rattle.lists.proofs.Bools.{here, next, via}
-use borrow.Author.Tests.{lt-ltb, le-ltb, eq-eqb, ne-eqb}
+use mathlib.Core.Bool.{Bool, true, false, cond}
 
 -- a ticket that is refused is refused before more is asked
 pub ticket-refused : (unknown retired : Bool) {r : ℕ} (more : ℕ) → r ≡ cond unknown 8 (cond retired 9 0) → (r ≡ 0 → ⊥) → r ≡ cond unknown 8 (cond retired 9 more)
@@ -17,11 +15,3 @@ pub ticket-right : (unknown retired : Bool) {r x more : ℕ} → r ≡ cond unkn
 ticket-right true retired e z p = absurd (omega arith)
 ticket-right false true e z p = absurd (omega arith)
 ticket-right false false e z p = p
-
-pub told : {t b z : Bool} → t ≡ b → t ≡ z → b ≡ z
-told p q = via p q
-
-pub not-told : {t b z : Bool} → t ≡ b → not t ≡ z → not b ≡ z
-not-told p q = rw (← p) q
-
-pub ruleset chain = (here, next, told, not-told, lt-ltb, le-ltb, eq-eqb, ne-eqb)

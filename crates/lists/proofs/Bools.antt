@@ -24,17 +24,22 @@ agree false false f g = refl
 pub via : {A : Type 0} {x y z : A} → x ≡ y → x ≡ z → y ≡ z
 via p q = sym p ∙ q
 
+-- the same after `if !f(..)`
+pub via-not : {x y z : Bool} → x ≡ y → not x ≡ z → not y ≡ z
+via-not p q = rw (← p) q
+
 -- ---- chains of tests
 
--- what stands beside a test that passes, and what comes after one that does not
+-- what stands beside a test that passes
 pub here : {A : Type 0} {b : Bool} {x r : A} (y : A) → b ≡ true → r ≡ x → r ≡ cond b x y
 here y p q = rw (p, q)
 
+-- what comes after one that does not
 pub next : {A : Type 0} {b : Bool} (x : A) {y r : A} → b ≡ false → r ≡ y → r ≡ cond b x y
 next x p q = rw (p, q)
 
--- for `search chain`: a function that returns at the first test that passes is the definition that asks the same tests
-pub ruleset chain = (here, next, via, lt-ltb, le-ltb, eq-eqb, ne-eqb)
+-- for `search chain`: code that returns at the first test that passes gives what a definition by the same tests gives
+pub ruleset chain = (here, next, via, via-not, lt-ltb, le-ltb, eq-eqb, ne-eqb)
 
 -- ---- congruences
 

@@ -1,7 +1,8 @@
 -- `begins::move_refusal` meets its contract: its ticket's two refusals are asked at once.
+use Rattle.lists.proofs.Bools.{chain}
 use Rattle.table.specs.Tickets.{ticketRefusal}
 use Rattle.begins.specs.Begins.{moveRefusal}
-use Rattle.begins.proofs.Laws.{chain, ticket-refused, ticket-right}
+use Rattle.begins.proofs.Laws.{ticket-refused, ticket-right}
 use borrow.Author.Needs.{needs}
 use Rattle.begins.proofs.move_refusal.Statement.{statement}
 use Rattle.begins.proofs.move_refusal.Tie as tie
@@ -29,11 +30,11 @@ holds-address-requires c κs = search needs
 
 returns-4 : tie.Need-returns-4
 unfolding moveRefusal ticketRefusal
-returns-4 c = search (ticket-right, chain) depth 6
+returns-4 c = search (ticket-right, chain)
 
 returns-5 : tie.Need-returns-5
 unfolding moveRefusal ticketRefusal
-returns-5 c = search (ticket-right, chain) depth 6
+returns-5 c = search (ticket-right, chain)
 
 pub move-refusal-spec : {M : Type 1} → statement M
 move-refusal-spec =
