@@ -1,15 +1,15 @@
 -- What all and pairwise say of parts of a list, and that they stay when an element is put in, replaced, taken out or cut off; what it
 -- means that something was found.
 use Prim.Native.Nat.{ℕ, zero, suc, _<_, _≤_}
-use mathlib.Core.Path.{_≡_, refl, sym, _∙_}
+use mathlib.Core.Path.{_≡_, refl, sym, ap, _∙_}
 use mathlib.Core.Bool.{Bool, true, false, cond, not, _&&_, _||_}
 use mathlib.Core.List.{List, [], _∷_, _++_}
 use native.Mathlib.Omega.{arith}
 use lib.Dec.{ltb, leb·suc-suc}
 use lib.ListN.{length, getD, take, set}
 use Rattle.lists.specs.Lists.{any, all, pairwise, find, insertBy, removeAt}
-use borrow.Author.Tests.{lt-ltb}
-use Rattle.lists.proofs.Bools.{both, and}
+use borrow.Author.Tests.{ltb-true, lt-ltb, not-true}
+use Rattle.lists.proofs.Bools.{both, and, or-right}
 
 module _ {A : Type 0} where
   pub all-mono : (p q : A → Bool) → ((y : A) → p y ≡ true → q y ≡ true) → (l : List A) → all p l ≡ true → all q l ≡ true
@@ -59,6 +59,15 @@ module _ {A : Type 0} where
       go ih true = sym (lt-ltb 0 (suc (length ys)) (omega arith))
       go ih false = ih ∙ sym (leb·suc-suc (suc (find p ys)) (length ys))
 
+  pub find-lt : (p : A → Bool) (l : List A) → any p l ≡ true → find p l < length l
+  find-lt p l h = ltb-true (find p l) (length l) (sym (any-find p l) ∙ h)
+
+  -- some element passes if the one at a place does
+  pub any-at : (p : A → Bool) (l : List A) (k : ℕ) (d : A) → k < length l → p (getD l k d) ≡ true → any p l ≡ true
+  any-at p [] k d b h = absurd (omega arith)
+  any-at p (y ∷ ys) zero d b h = rw h
+  any-at p (y ∷ ys) (suc k) d b h = or-right (p y) (any-at p ys k d (omega arith) h)
+
   pub none-any : (p : A → Bool) (l : List A) → any p l ≡ false → all (λ y. not (p y)) l ≡ true
   none-any p [] h = refl
   none-any p (y ∷ ys) h = go (none-any p ys) (p y) h
@@ -66,6 +75,22 @@ module _ {A : Type 0} where
       go : (any p ys ≡ false → all (λ z. not (p z)) ys ≡ true) → (b : Bool) → (b || any p ys) ≡ false → (not b && all (λ z. not (p z)) ys) ≡ true
       go ih true k = sym k
       go ih false k = ih k
+
+  -- where every element fails the test, none passes
+  pub all-none : (p : A → Bool) (l : List A) → all (λ y. not (p y)) l ≡ true → any p l ≡ false
+  all-none p [] h = refl
+  all-none p (y ∷ ys) h = let t = both (not (p y)) (all (λ z. not (p z)) ys) h in rw (not-true (p y) (t .0)) (all-none p ys (t .1))
+
+  -- where every element fails the test and x, which passes, is set at k, it is found there
+  pub find-set : (p : A → Bool) (x : A) → p x ≡ true → (l : List A) (k : ℕ) → k < length l → all (λ y. not (p y)) l ≡ true → find p (set l k x) ≡ k
+  find-set p x e [] k b h = absurd (omega arith)
+  find-set p x e (y ∷ ys) zero b h = rw e
+  find-set p x e (y ∷ ys) (suc k) b h =
+      let t = both (not (p y)) (all (λ z. not (p z)) ys) h in rw (not-true (p y) (t .0)) (ap suc (find-set p x e ys k (omega arith) (t .1)))
+
+  pub all-append : (p : A → Bool) (l k : List A) → all p l ≡ true → all p k ≡ true → all p (l ++ k) ≡ true
+  all-append p [] k h g = g
+  all-append p (y ∷ ys) k h g = let t = both (p y) (all p ys) h in and (t .0) (all-append p ys k (t .1) g)
 
   pub all-insert : (p q : A → Bool) (x : A) → p x ≡ true → (l : List A) → all p l ≡ true → all p (insertBy q x l) ≡ true
   all-insert p q x e [] h = and e refl
@@ -97,6 +122,25 @@ module _ {A : Type 0} where
         let wy = both (all (r y) ys) (pairwise r ys) w in
         and (all-snoc (r y) x (hy .0) ys (wy .0)) (pairwise-snoc x ys (hy .1) (wy .1))
 
+    -- elements that pass p and stand in r stand in s
+    pub pairwise-mono : (s : A → A → Bool) (p : A → Bool) → ((x y : A) → p x ≡ true → p y ≡ true → r x y ≡ true → s x y ≡ true)
+        → (l : List A) → all p l ≡ true → pairwise r l ≡ true → pairwise s l ≡ true
+    pairwise-mono s p f [] h w = refl
+    pairwise-mono s p f (y ∷ ys) h w =
+        let hy = both (p y) (all p ys) h in
+        let wy = both (all (r y) ys) (pairwise r ys) w in
+        and
+        (all-mono (λ z. p z && r y z) (s y) (λ z k. f y z (hy .0) (both (p z) (r y z) k .0) (both (p z) (r y z) k .1)) ys (all-both p (r y) ys (hy .1) (wy .0)))
+        (pairwise-mono s p f ys (hy .1) (wy .1))
+
+    -- each element of the first list stands in r to each of the second
+    pub pairwise-append : (l k : List A) → pairwise r l ≡ true → pairwise r k ≡ true → all (λ x. all (r x) k) l ≡ true → pairwise r (l ++ k) ≡ true
+    pairwise-append [] k h g b = g
+    pairwise-append (x ∷ xs) k h g b =
+        let t = both (all (r x) xs) (pairwise r xs) h in
+        let u = both (all (r x) k) (all (λ y. all (r y) k) xs) b in
+        and (all-append (r x) xs k (t .0) (u .0)) (pairwise-append xs k (t .1) g (u .1))
+
     -- an element goes, and x, which may stand behind every one, comes to the end
     pub pairwise-remove : (x : A) (l : List A) (k : ℕ) → all (λ y. r y x) l ≡ true → pairwise r l ≡ true → pairwise r (removeAt k x l) ≡ true
     pairwise-remove x [] k h w = refl
@@ -105,6 +149,17 @@ module _ {A : Type 0} where
         let hy = both (r y x) (all (λ z. r z x) ys) h in
         let wy = both (all (r y) ys) (pairwise r ys) w in
         and (all-remove (r y) x (hy .0) ys k (wy .0)) (pairwise-remove x ys k (hy .1) (wy .1))
+
+    -- what holds of each element that stands behind or before the one at a place holds of all that are left when that goes
+    pub pairwise-others : (q : A → Bool) (x : A) → q x ≡ true → (l : List A) (k : ℕ) (d : A)
+        → ((y : A) → r (getD l k d) y ≡ true → q y ≡ true)
+        → ((y : A) → r y (getD l k d) ≡ true → q y ≡ true)
+        → k < length l → pairwise r l ≡ true → all q (removeAt k x l) ≡ true
+    pairwise-others q x e [] k d behind before b w = refl
+    pairwise-others q x e (y ∷ ys) zero d behind before b w = all-snoc q x e ys (all-mono (r y) q behind ys (both (all (r y) ys) (pairwise r ys) w .0))
+    pairwise-others q x e (y ∷ ys) (suc k) d behind before b w =
+        let wy = both (all (r y) ys) (pairwise r ys) w in
+        and (before y (all-at (r y) ys k d (wy .0) (omega arith))) (pairwise-others q x e ys k d behind before (omega arith) (wy .1))
 
     pub pairwise-take : (n : ℕ) (l : List A) → pairwise r l ≡ true → pairwise r (take n l) ≡ true
     pairwise-take zero l h = refl
@@ -151,3 +206,16 @@ module _ {A : Type 0} where
         and
         (all-set (r y) x (before y (hy .0) (rw e at (all-at (r y) ys k d (wy .0) (omega arith)))) ys k (wy .0))
         (pairwise-set x old p after before ys k d e (omega arith) (hy .1) (wy .1))
+
+    -- x takes the place of the element at k: a test that x passes, and whatever stands to that element in r, every element then passes
+    pub all-beside : (p : A → Bool) (x old : A) → p x ≡ true
+        → ((y : A) → r old y ≡ true → p y ≡ true)
+        → ((y : A) → r y old ≡ true → p y ≡ true)
+        → (l : List A) (k : ℕ) (d : A) → getD l k d ≡ old → k < length l → pairwise r l ≡ true → all p (set l k x) ≡ true
+    all-beside p x old e after before [] k d g b w = refl
+    all-beside p x old e after before (y ∷ ys) zero d g b w =
+        and e (all-mono (r y) p (λ z h. after z (rw (← g) h)) ys (both (all (r y) ys) (pairwise r ys) w .0))
+    all-beside p x old e after before (y ∷ ys) (suc k) d g b w =
+        let t = both (all (r y) ys) (pairwise r ys) w in
+        let inside : k < length ys = omega arith in
+        and (before y (rw g at (all-at (r y) ys k d (t .0) inside))) (all-beside p x old e after before ys k d g inside (t .1))

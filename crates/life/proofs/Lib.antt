@@ -1,0 +1,5 @@
+pub mod Table
+pub mod Begins
+pub mod Sound
+pub mod Given
+pub mod Tickets

@@ -1,0 +1,4 @@
+pub mod Moments
+pub mod Refusals
+pub mod Steps
+pub mod Calls
