@@ -25,7 +25,8 @@ fn no_row() -> Row
 fn comes_behind(r: Row, address: u8) -> bool
     ensures { λ o. ⌜ o ≡ comesBehind address r ⌝ }
 {
-    !(r.address != 0) | (address < r.address)
+    let used = r.address != 0;
+    !used | (address < r.address)
 }
 
 // Where a row of this address goes in: the first place that comes behind it, 32 if none does.

@@ -49,7 +49,8 @@ pub fn address_for(f: Facts, rows: [Row; 32], identity: u64) -> u8
 pub fn full(rows: [Row; 32]) -> bool
     ensures { λ r. ⌜ r ≡ Free·full rows ⌝ }
 {
-    !(rows::used_rows(rows) < 32)
+    let room = rows::used_rows(rows) < 32;
+    !room
 }
 
 // Whether no address is free.

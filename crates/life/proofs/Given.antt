@@ -6,10 +6,10 @@ use mathlib.Core.List.{List, [], _∷_}
 use native.Mathlib.Omega.{arith}
 use lib.Dec.{eqb, ltb}
 use lib.ListN.{length, replicate, set}
-use borrow.Author.Tests.{ltb-true, eqb-true, eqb-false, ne-eqb, not-true}
+use borrow.Author.Tests.{eqb-true, eqb-false, ne-eqb, not-true}
 use Rattle.lists.specs.Lists.{all, insertBy}
 use Rattle.lists.proofs.Bools.{both, cond-by}
-use Rattle.lists.proofs.Keeps.{any-find, found-passes, none-any, all-none, all-at, all-take, all-insert, all-set, all-remove}
+use Rattle.lists.proofs.Keeps.{find-lt, found-passes, none-any, all-none, all-at, all-take, all-insert, all-set, all-remove}
 use Rattle.parity.specs.Cells.{stopCell}
 use Rattle.slots.specs.declared.Facts.{Facts}
 use Rattle.rows.specs.Rows.{noRow, inUse, hasAddress, hasTicket, holdsAddress, holdsTicket, holdsIdentity, placeOfAddress, placeOfTicket, placeOfIdentity, rowAt}
@@ -17,15 +17,15 @@ use Rattle.rows.specs.declared.Row.{Row}
 use Rattle.changes.specs.Changes.{comesBehind, withRow, without, renewed, renewedRow, moved, movedRow}
 use Rattle.free.specs.Free.{canAssign, isFree}
 use Rattle.table.specs.Tickets.{newTicket, ticketed}
-use Rattle.table.specs.Sound.{sound}
 use Rattle.begins.specs.Begins.{askedRight, canMove}
 use Rattle.machine.specs.declared.Machine.{Machine}
 use Rattle.machine.specs.declared.Moment.{Moment}
 use Rattle.machine.specs.declared.Moment.the-variants.{Idle, Opened, Round, Listening, Offered, Direct}
-use Rattle.machine.specs.Moments.{idle, goesDirect, rightAt, momentRight, machineRight}
+use Rattle.machine.specs.Moments.{idle, goesDirect, rightAt, machineRight}
 use Rattle.machine.specs.Refusals.{stepRefusal, beginRefusal, joinRefusal, identityRefusal, giveUpRefusal, retireRefusal, askRefusal}
 use Rattle.machine.specs.Steps.{Step, did, refuse, beginning, joining, onwardMachine, roundRule, commanded, openedAnswer, roundAnswer, listened, assignedRow, acceptedRows, accepted, declined, setRow, directed, directAnswer, answerAt}
 use Rattle.machine.specs.Calls.{unless, begun, answered, identified, givenUp, joined, retired, asked}
+use Rattle.life.proofs.Sound.{right-says}
 use Rattle.life.specs.Life.{Call, begin, answer, identity, giveUp, join, retire, ask, stepOf, after}
 
 -- ---- a call is refused, or steps
@@ -162,7 +162,7 @@ module _ (f : Facts) (rows : List Row) where
   one-moved a b held =
       let k = placeOfAddress a rows in
       let old = rowAt rows k in
-      let inside : k < length rows = ltb-true k (length rows) (sym (any-find (hasAddress a) rows) ∙ held) in
+      let inside : k < length rows = find-lt (hasAddress a) rows held in
       let in-use : inUse old ≡ true = both (inUse old) (eqb (old .address) a) (found-passes (hasAddress a) rows noRow inside) .0 in
       let lacks-too : (t : ℕ) → all (lacks t) rows ≡ true → lacks t (movedRow b old) ≡ true =
       λ t h. lacks-other t (movedRow b old) (λ u. other-lacks t old (all-at (lacks t) rows k noRow h inside) in-use) in
@@ -193,11 +193,6 @@ pub onward-has : (P : Facts → List Row → Type 0) (on : Bool) (f : Facts) (ro
     → P (onwardMachine on f rows k .facts) (onwardMachine on f rows k .rows)
 onward-has P true f rows k h = h
 onward-has P false f rows k h = h
-
--- a right machine is sound, and right for its moment
-pub right-parts : (m : Machine) → machineRight m ≡ true → (sound (m .facts) (m .rows) ≡ true) × (rightAt (m .moment) m ≡ true)
-unfolding machineRight momentRight
-right-parts m h = both (sound (m .facts) (m .rows)) (momentRight m) h
 
 -- the row of a move that can be made
 move-held : (f : Facts) (rows : List Row) (choice asked wanted : ℕ) → goesDirect choice ≡ true → eqb choice 2 ≡ false
@@ -275,7 +270,7 @@ module _ (m : Machine) where
 stepping-grows : (c : Call) (m : Machine) → machineRight m ≡ true → Grown m (stepping c m .machine)
 unfolding beginning listened joining
 stepping-grows (begin choice static new ticket room) m right = same m
-stepping-grows (answer heard room) m right = answer-grows m (m .moment) (right-parts m right .1) heard
+stepping-grows (answer heard room) m right = answer-grows m (m .moment) (right-says m right .1) heard
 stepping-grows (identity bytes room) m right = same m
 stepping-grows (giveUp room) m right = same m
 stepping-grows (join choice room) m right = cond-by (Leads m) (eqb choice 0) (λ e. same m) (λ e. same m)

@@ -80,7 +80,7 @@ abbrev Right : Step → Type 0
 Right s = machineRight (s .machine) ≡ true
 
 -- a right machine's table is sound, and it is right at its moment
-right-says : (m : Machine) → machineRight m ≡ true → (sound (m .facts) (m .rows) ≡ true) × (rightAt (m .moment) m ≡ true)
+pub right-says : (m : Machine) → machineRight m ≡ true → (sound (m .facts) (m .rows) ≡ true) × (rightAt (m .moment) m ≡ true)
 unfolding machineRight momentRight
 right-says m h = both (sound (m .facts) (m .rows)) (rightAt (m .moment) m) h
 
@@ -192,7 +192,7 @@ start-right f = idle-right _ _ (empty-sound _ (cond-by (λ (g : Facts). factsRig
 -- ---- each call
 
 -- what holds of the machine as given, and of the step's where there is no refusal, holds of the machine after the call
-pub unless-keeps : (P : Machine → Type 0) (k : ℕ) (m : Machine) (s : Step) → P m → (k ≡ 0 → P (s .machine)) → P (unless k m s .machine)
+unless-keeps : (P : Machine → Type 0) (k : ℕ) (m : Machine) (s : Step) → P m → (k ≡ 0 → P (s .machine)) → P (unless k m s .machine)
 unless-keeps P k m s before after = cond-by (λ (q : Step). P (q .machine)) (eqb k 0) (λ e. after (eqb-true k 0 e)) (λ e. before)
 
 -- only at listening is it listening

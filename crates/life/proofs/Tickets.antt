@@ -11,7 +11,7 @@ use lib.Seq.{getD-set-same}
 use borrow.Author.Tests.{ltb-true, ltb-false, leb-true, eqb-true, eqb-false, lt-ltb, le-ltb, eq-eqb, ne-eqb, not-true, not-false}
 use Rattle.lists.specs.Lists.{all, pairwise}
 use Rattle.lists.proofs.Bools.{both, and, not-failed, neither, cond-by}
-use Rattle.lists.proofs.Keeps.{all-mono, all-at, found-passes, any-find, all-none, find-set, all-append, pairwise-mono, pairwise-append, all-beside}
+use Rattle.lists.proofs.Keeps.{all-mono, all-at, found-passes, find-lt, all-none, find-set, all-append, pairwise-mono, pairwise-append, all-beside}
 use Rattle.slots.specs.declared.Facts.{Facts}
 use Rattle.rows.specs.Rows.{noRow, inUse, hasTicket, hasIdentity, holdsTicket, holdsIdentity, placeOfTicket, placeOfIdentity, rowAt}
 use Rattle.rows.specs.declared.Row.{Row}
@@ -25,11 +25,12 @@ use Rattle.machine.specs.declared.Moment.{Moment}
 use Rattle.machine.specs.declared.Moment.the-variants.{Idle, Offered}
 use Rattle.machine.specs.Moments.{machineRight, isIdle}
 use Rattle.machine.specs.Refusals.{stepRefusal, beginRefusal, retireRefusal, askRefusal}
-use Rattle.machine.specs.Steps.{Step, refuse, addressOf, roundRule, acceptedRows, accepted, answerAt}
+use Rattle.machine.specs.Steps.{Step, refuse, roundRule, acceptedRows, accepted, answerAt}
 use Rattle.machine.specs.Calls.{begun, answered, retired, asked}
-use Rattle.life.specs.Life.{Call, begin, answer, identity, giveUp, join, retire, ask, stepOf, after, afterAll, names, newIn, given, givenOver}
-use Rattle.life.proofs.Sound.{keeps, keeps-all}
-use Rattle.life.proofs.Given.{refusing, steps-unless, refused-or, lacks, lacks-other, onward-has, right-parts, grows}
+use Rattle.life.specs.Life.{Call, begin, answer, identity, giveUp, join, retire, ask, stepOf, after, afterAll, names, Returned, newIn, given, givenOver}
+use Rattle.life.proofs.Table.{sound-says}
+use Rattle.life.proofs.Sound.{right-says, keeps, keeps-all}
+use Rattle.life.proofs.Given.{refusing, steps-unless, refused-or, lacks, lacks-other, onward-has, grows}
 
 -- ---- the last ticket
 
@@ -84,11 +85,11 @@ given-above (c ∷ cs) m =
 -- ---- one ticket at a time
 
 -- rows in order have different tickets
-apart : (x y : Row) → inOrder x y ≡ true → inUse y ≡ true → x .ticket ≡ y .ticket → ⊥
-apart x y h u = let t = simp and-eq-true-iff at (rw u at h) in eqb-false (x .ticket) (y .ticket) (not-true (eqb (x .ticket) (y .ticket)) (t .1 .0 .0))
+other-ticket : (x y : Row) → inOrder x y ≡ true → inUse y ≡ true → x .ticket ≡ y .ticket → ⊥
+other-ticket x y h u = let t = simp and-eq-true-iff at (rw u at h) in eqb-false (x .ticket) (y .ticket) (not-true (eqb (x .ticket) (y .ticket)) (t .1 .0 .0))
 
 behind-lacks : (x y : Row) → inOrder x y ≡ true → lacks (x .ticket) y ≡ true
-behind-lacks x y h = lacks-other (x .ticket) y (λ u e. apart x y h u (sym e))
+behind-lacks x y h = lacks-other (x .ticket) y (λ u e. other-ticket x y h u (sym e))
 
 -- so the new ones among them are distinct
 new-distinct : (others rows : List Row) → pairwise inOrder rows ≡ true → pairwise (λ x y. not (eqb x y)) (newIn others rows) ≡ true
@@ -100,11 +101,6 @@ new-distinct others (r ∷ rows) w =
     cond-by (λ (l : List ℕ). pairwise (λ x y. not (eqb x y)) l ≡ true) (inUse r && not (holdsTicket (r .ticket) others))
     (λ new. and (new-all (λ t. not (eqb (r .ticket) t)) others rows (λ t e old. rw (← (eqb-true (r .ticket) t (not-false (eqb (r .ticket) t) e))) none)) rest)
     (λ old. rest)
-
--- the rows of a sound table are in order
-sound-order : (f : Facts) (rows : List Row) → sound f rows ≡ true → pairwise inOrder rows ≡ true
-unfolding sound
-sound-order f rows h = (simp and-eq-true-iff at h) .1
 
 -- a machine that is not right stays as it is, so it gives none
 stays : (c : Call) (m : Machine) → machineRight m ≡ false → after c m ≡ m
@@ -123,7 +119,7 @@ one-given c m = go (machineRight m) refl
         pairwise-mono (λ x y. not (eqb x y)) ltb (eqb (newTicket (m .facts)))
         (λ x y p q h. absurd (eqb-false x y (not-true (eqb x y) h) (sym (eqb-true (newTicket (m .facts)) x p) ∙ eqb-true (newTicket (m .facts)) y q)))
         (given c m) (given-next c m)
-        (new-distinct (m .rows) (after c m .rows) (sound-order (after c m .facts) (after c m .rows) (right-parts (after c m) (keeps c m right) .0)))
+        (new-distinct (m .rows) (after c m .rows) (sound-says (right-says (after c m) (keeps c m right) .0) .order))
     go false broken =
         none (given c m)
         (given-all c m (λ t. false)
@@ -220,12 +216,17 @@ refuses : (c : Call) (m : Machine) (k : ℕ) → refusing c m ≡ k → eqb k 0 
 refuses c m k e z = steps-unless c m ∙ rw (e, z)
 
 -- whatever the moment and the arguments
-pub retired-not-named : (c : Call) (m : Machine) (t : ℕ) → ticketRetired (m .facts) (m .rows) t ≡ true → names t c ≡ true
+not-named : (c : Call) (m : Machine) (t : ℕ) → ticketRetired (m .facts) (m .rows) t ≡ true → names t c ≡ true
     → (stepOf c m .refusal ≡ 0 → ⊥) × ((stepOf c m .cells ≡ []) × (after c m ≡ m))
-retired-not-named c m t h n =
+not-named c m t h n =
     let e = names-refused m t h c n in
     let s = refuses c m (refusing c m) refl e in
     (λ z. eqb-false (refusing c m) 0 e (sym (ap (λ (x : Step). x .refusal) s) ∙ z), (ap (λ (x : Step). x .cells) s, ap (λ (x : Step). x .machine) s))
+
+-- and ever after
+pub retired-not-named : (cs : List Call) (c : Call) (m : Machine) (t : ℕ) → ticketRetired (m .facts) (m .rows) t ≡ true → names t c ≡ true
+    → (stepOf c (afterAll cs m) .refusal ≡ 0 → ⊥) × ((stepOf c (afterAll cs m) .cells ≡ []) × (after c (afterAll cs m) ≡ afterAll cs m))
+retired-not-named cs c m t h = not-named c (afterAll cs m) t (stays-retired cs m t h)
 
 -- with 9, where nothing comes before it
 pub retired-move : (m : Machine) (static new t room : ℕ) → 8 ≤ room → machineRight m ≡ true → m .moment ≡ Idle → new ≤ 127
@@ -242,12 +243,6 @@ unfolding retireRefusal
 retired-retire m t right rests h = refuses (retire t) m 9 (rw (right, ap isIdle rests) (refused-nine (m .facts) (m .rows) t h)) refl
 
 -- ---- a board that comes back
-
--- of a row with a new ticket in its stead: its ticket is retired, the new one has its address, and the row of the new one has the identity
-pub record Returned (old : Row) (new id : ℕ) (f : Facts) (rows : List Row) : Type 0 where
-  pub old-retired : ticketRetired f rows (old .ticket) ≡ true
-  pub same-address : addressOf rows new ≡ old .address
-  pub same-identity : hasIdentity id (rowAt rows (placeOfTicket new rows)) ≡ true
 
 -- the ticket of a row is from 1 to the last, so no row has the next
 given-ticket : (f : Facts) (r : Row) → rowRight f r ≡ true → inUse r ≡ true → (0 < r .ticket) × (r .ticket ≤ f .last)
@@ -267,7 +262,7 @@ renewed-returned f rows id ok held =
     let k = placeOfIdentity id rows in
     let old = rowAt rows k in
     let new = renewedRow (newTicket f) old in
-    let inside : k < length rows = ltb-true k (length rows) (sym (any-find (hasIdentity id) rows) ∙ held) in
+    let inside : k < length rows = find-lt (hasIdentity id) rows held in
     let known : hasIdentity id old ≡ true = found-passes (hasIdentity id) rows noRow inside in
     let used : inUse old ≡ true = (simp and-eq-true-iff at known) .0 .0 in
     let range = given-ticket f old (all-at (rowRight f) rows k noRow (t .0 .1) inside) used in
@@ -286,7 +281,7 @@ renewed-returned f rows id ok held =
                 (all-beside inOrder (lacks (old .ticket)) new old
                 (lacks-other (old .ticket) new (λ u e. omega (arith, e, range .1)))
                 (behind-lacks old)
-                (λ y h. lacks-other (old .ticket) y (λ u. apart y old h used))
+                (λ y h. lacks-other (old .ticket) y (λ u. other-ticket y old h used))
                 rows k noRow refl inside (t .1));
           };
       same-address = ap (λ (r : Row). r .address) here;
@@ -309,5 +304,5 @@ comes-back m room right offers known enough =
     subst (λ (s : Step). back (s .machine .facts) (s .machine .rows)) (sym (offer-accepted m room right offers enough))
     (onward-has back (canAssign (ticketed (m .facts)) rows′) (ticketed (m .facts)) rows′ 0
     (cond-by (back (ticketed (m .facts))) (holdsIdentity (m .identity) (m .rows))
-    (λ e. renewed-returned (m .facts) (m .rows) (m .identity) (right-parts m right .0) known)
+    (λ e. renewed-returned (m .facts) (m .rows) (m .identity) (right-says m right .0) known)
     (λ e. absurd (true≢false (sym known ∙ e)))))

@@ -1,12 +1,15 @@
 -- A table's life: the calls as data, the machine after any of them, and the tickets that they give.
 use Prim.Native.Nat.{ℕ}
-use mathlib.Core.Bool.{Bool, false, cond, not, _&&_}
+use mathlib.Core.Path.{_≡_}
+use mathlib.Core.Bool.{Bool, true, false, cond, not, _&&_}
 use mathlib.Core.List.{List, [], _∷_, _++_}
 use lib.Dec.{eqb}
-use Rattle.rows.specs.Rows.{inUse, holdsTicket}
+use Rattle.slots.specs.declared.Facts.{Facts}
+use Rattle.rows.specs.Rows.{inUse, hasIdentity, holdsTicket, placeOfTicket, rowAt}
 use Rattle.rows.specs.declared.Row.{Row}
+use Rattle.table.specs.Tickets.{ticketRetired}
 use Rattle.machine.specs.declared.Machine.{Machine}
-use Rattle.machine.specs.Steps.{Step}
+use Rattle.machine.specs.Steps.{Step, addressOf}
 use Rattle.machine.specs.Calls.{begun, answered, identified, givenUp, joined, retired, asked}
 
 -- ---- calls
@@ -48,6 +51,21 @@ names t (giveUp room) = false
 names t (join choice room) = false
 names t (retire ticket) = eqb ticket t
 names t (ask ticket) = eqb ticket t
+
+-- ---- rows and boards
+
+-- y is the row of the board that x is the row of: ticket, mark, identity and static address agree; the address may differ
+abbrev pub sameBoard : Row → Row → Bool
+sameBoard x y =
+    inUse y && eqb (x .ticket) (y .ticket) && cond (x .unknown) (y .unknown) (not (y .unknown)) && eqb (x .identity) (y .identity)
+    && eqb (x .«from_static») (y .«from_static»)
+
+-- a board came back: in place of its old row there is one with a new ticket. The old ticket is retired, the new one has the old address, and its row
+-- has the identity
+pub record Returned (old : Row) (new id : ℕ) (f : Facts) (rows : List Row) : Type 0 where
+  pub old-retired : ticketRetired f rows (old .ticket) ≡ true
+  pub same-address : addressOf rows new ≡ old .address
+  pub same-identity : hasIdentity id (rowAt rows (placeOfTicket new rows)) ≡ true
 
 -- ---- tickets given
 

@@ -1,5 +1,5 @@
 -- Laws of what is written into a buffer, element by element, behind what was written before, or into a part `buffer[at..]` that was lent.
-use mathlib.Core.Path.{_≡_, refl, _∙_}
+use mathlib.Core.Path.{_≡_, _∙_}
 use mathlib.Core.List.{List, [], _∷_, _++_, append-assoc, append-nil}
 use Prim.Native.Nat.{ℕ, suc, _+_, _-_, _<_, _≤_}
 use native.Mathlib.Nat.{zero-add, le-refl}

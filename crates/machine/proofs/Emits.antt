@@ -1,17 +1,15 @@
 -- Every call's cells fit the eight places and the lent buffer, and writing them is what its promise says.
-use Prim.Native.Nat.{ℕ, zero, suc, _≤_}
-use mathlib.Core.Path.{_≡_, refl, sym, ap, _∙_}
+use Prim.Native.Nat.{ℕ, _≤_}
+use mathlib.Core.Path.{_≡_, refl, _∙_}
 use mathlib.Core.Bool.{Bool, true, false, cond, not}
-use mathlib.Core.List.{List, [], _∷_, _++_, map}
+use mathlib.Core.List.{List, _++_}
 use native.Mathlib.Omega.{arith}
 use lib.Dec.{eqb, ltb}
-use lib.ListN.{length, take, drop, replicate, length-map, length-append}
+use lib.ListN.{length, take, drop, replicate, length-map}
 use lib.Seq.{take-take, take-append-seam}
 use borrow.Author.Tests.{ltb-false, eqb-true}
 use Rattle.lists.proofs.Bools.{cond-by}
 use Rattle.machine.proofs.Laws.{eight-bytes}
-use Rattle.slots.specs.declared.Facts.{Facts}
-use Rattle.rows.specs.declared.Row.{Row}
 use Rattle.parity.specs.Cells.{identityCell}
 use Rattle.machine.specs.declared.Machine.{Machine}
 use Rattle.machine.specs.declared.did.Did.{Did}
@@ -20,7 +18,7 @@ use Rattle.machine.specs.declared.Moment.{Moment}
 use Rattle.machine.specs.declared.Moment.the-variants.{Idle, Opened, Round, Listening, Offered, Direct}
 use Rattle.machine.specs.Moments.{machineRight}
 use Rattle.machine.specs.Refusals.{stepRefusal, beginRefusal, joinRefusal, identityRefusal, giveUpRefusal}
-use Rattle.machine.specs.Steps.{Step, did, refuse, beginning, joining, onward, roundRule, commanded, openedAnswer, roundAnswer, listened, accepted, declined, directAnswer, answerAt}
+use Rattle.machine.specs.Steps.{Step, refuse, beginning, joining, roundRule, commanded, openedAnswer, roundAnswer, listened, accepted, declined, directAnswer, answerAt}
 use Rattle.machine.specs.Calls.{unless, begun, answered, identified, givenUp, joined, stepped, written, laid}
 
 -- ---- room
@@ -48,9 +46,6 @@ fits room m more s h = go (ltb room 8) (ltb-false room 8) (machineRight m)
     go false r true = inner (r refl) (eqb more 0) refl
 
 -- ---- each step writes at most eight
-
-onward-short : (on : Bool) (f : Facts) (rows : List Row) (refusals : ℕ) (cells : List ℕ) → length cells ≤ 7 → length (onward on f rows refusals cells .cells) ≤ 8
-onward-short on f rows refusals cells h = rw (length-append) (omega arith)
 
 commanded-short : (m : Machine) → length (commanded m .cells) ≤ 8
 unfolding commanded roundRule

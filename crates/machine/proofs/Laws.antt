@@ -1,7 +1,7 @@
 -- Laws of the machine for the proofs of its functions: one for each way through a function, for `search`.
-use Prim.Native.Nat.{ℕ, _+_, _≤_, _<_}
+use Prim.Native.Nat.{ℕ, _≤_, _<_}
 use mathlib.Core.Path.{_≡_, refl, sym, ap, _∙_}
-use mathlib.Core.Bool.{Bool, true, false, cond, not, _&&_, and-eq-true-iff}
+use mathlib.Core.Bool.{Bool, true, false, cond, not, and-eq-true-iff}
 use mathlib.Core.List.{List, map}
 use native.Mathlib.Omega.{arith}
 use lib.Dec.{eqb, ltb}
@@ -24,7 +24,7 @@ use Rattle.machine.specs.declared.Machine.{Machine}
 use Rattle.machine.specs.declared.did.Did.{Did}
 use Rattle.machine.specs.declared.Stepped.{Stepped}
 use Rattle.machine.specs.declared.Moment.{Moment}
-use Rattle.machine.specs.declared.Moment.the-variants.{Idle, Opened, Round, Listening, Offered, Direct}
+use Rattle.machine.specs.declared.Moment.the-variants.{Offered, Direct}
 use Rattle.machine.specs.Moments.{idle, offering, rightAt, momentRight, machineRight, isListening}
 use Rattle.machine.specs.Refusals.{stepRefusal, identityRefusal, askRefusal}
 use Rattle.machine.specs.Steps.{Step, refuse, addressOf, identityOf, listened, assignedRow, acceptedRows, answerAt}

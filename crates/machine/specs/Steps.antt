@@ -75,7 +75,8 @@ roundRule f rows cells = onward (canAssign f rows) f rows 0 cells
 
 -- ---- opened
 
--- answer: 504, then by command
+-- answer: 504, then by command: 0 assign 14 and the round rule; 1 reset all 13, 514, all rows go; 2 set from static 271, 513, direct; 3 move 273, 513,
+-- direct; 4 silence 2, 16, 514; 5 allow 1, 16, 514
 unfoldable pub commanded : Machine → Step
 commanded m =
     cond (eqb (m .choice) 0) (roundRule (m .facts) (m .rows) (broadcastWrite true ∷ assignCell ∷ []))

@@ -71,7 +71,8 @@ fn distinct(x: Row, y: Row) -> bool
 fn in_order(x: Row, y: Row) -> bool
     ensures { λ o. ⌜ o ≡ inOrder x y ⌝ }
 {
-    !(y.address != 0) | ((x.address != 0) & (x.address < y.address) & distinct(x, y))
+    let used = y.address != 0;
+    !used | ((x.address != 0) & (x.address < y.address) & distinct(x, y))
 }
 
 // Whether every place is right by itself.

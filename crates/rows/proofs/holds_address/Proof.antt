@@ -1,6 +1,5 @@
 -- `rows::holds_address` meets its contract: a row has the address where one is found.
-use mathlib.Core.Path.{_≡_, sym, _∙_}
-use lib.Dec.{ltb}
+use mathlib.Core.Path.{_≡_}
 use lib.ListN.{length}
 use Rattle.lists.proofs.Keeps.{any-find}
 use Rattle.rows.specs.Rows.{hasAddress}

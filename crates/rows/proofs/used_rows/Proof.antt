@@ -1,5 +1,4 @@
 -- `rows::used_rows` meets its contract: a loop that counts.
-use mathlib.Core.Path.{sym, _∙_}
 use mathlib.Core.Logic.{⊎-elim}
 use Rattle.lists.proofs.Bools.{via}
 use Rattle.lists.proofs.Loops.{Count, count-start, count-turn, count-skip, count-ended}
