@@ -26,12 +26,21 @@ assignRefusal f rows =
     (cond (noTicketLeft f) 7
     0))
 
--- set from static
+-- set from static: an address out of range, the new one or the static one; one that is not open or is legacy; one that a row holds
+abbrev pub setOutOfRange : ℕ → ℕ → Bool
+setOutOfRange static new = ltb 127 new || not (within 0x08 0x77 static)
+
+abbrev pub setNotOpen : Facts → ℕ → ℕ → Bool
+setNotOpen f static new = not (isOpen f new) || isLegacy (f .legacy) static
+
+abbrev pub setHeld : List Row → ℕ → ℕ → Bool
+setHeld rows static new = holdsAddress new rows || staticHeld rows static
+
 unfoldable pub setRefusal : Facts → List Row → ℕ → ℕ → ℕ
 setRefusal f rows static new =
-    cond (ltb 127 new || not (within 0x08 0x77 static)) 2
-    (cond (not (isOpen f new) || isLegacy (f .legacy) static) 3
-    (cond (holdsAddress new rows || staticHeld rows static) 4
+    cond (setOutOfRange static new) 2
+    (cond (setNotOpen f static new) 3
+    (cond (setHeld rows static new) 4
     (cond (full rows) 5
     (cond (noTicketLeft f) 7
     0))))

@@ -1,16 +1,11 @@
 // What Begin and Join ask of the table, by choice, and what may be remembered of it.
 ghost use mathlib.Core.Path.{_≡_};
-ghost use mathlib.Core.Bool.{not, _||_};
-ghost use lib.Dec.{ltb};
-ghost use Rattle.lists.specs.Numbers.{within};
-ghost use Rattle.slots.specs.Slots.{isLegacy, isOpen};
-ghost use Rattle.rows.specs.Rows.{holdsAddress};
-ghost use Rattle.begins.specs.Begins.{staticHeld, assignRefusal, setRefusal, moveRefusal, choiceRefusal, joiningRefusal, canSet, canMove, askedRight};
+ghost use Rattle.begins.specs.Begins.{staticHeld, assignRefusal, setOutOfRange, setNotOpen, setHeld, setRefusal, moveRefusal, choiceRefusal, joiningRefusal, canSet, canMove, askedRight};
 use rows::Row;
 use slots::Facts;
 
-// Refusals: an address that is not open, or a static one that is legacy; an address that a row holds; no place, no free address, no ticket left;
-// a choice number that there is not.
+// Refusals: an address is not open, or a static one is legacy; an address is held by a row; 32 rows; no free address; no ticket left; a choice
+// that there is not.
 pub const NOT_OPEN: u8 = 3;
 
 pub const HELD: u8 = 4;
@@ -22,6 +17,26 @@ pub const NO_FREE_ADDRESS: u8 = 6;
 pub const NO_TICKET_LEFT: u8 = 7;
 
 pub const UNKNOWN_CHOICE: u8 = 12;
+
+// Begin's choices.
+pub const ASSIGN: u8 = 0;
+
+pub const RESET_ALL: u8 = 1;
+
+pub const SET_FROM_STATIC: u8 = 2;
+
+pub const MOVE: u8 = 3;
+
+pub const SILENCE: u8 = 4;
+
+pub const ALLOW: u8 = 5;
+
+// Join's choices: turn the board away; answer it, then silence joining; answer it, then assign.
+pub const JOIN_REFUSED: u8 = 0;
+
+pub const JOIN_SILENCED: u8 = 1;
+
+pub const JOIN_ASSIGNED: u8 = 2;
 
 // ---- refusals, 0 for none
 
@@ -41,27 +56,27 @@ fn assign_refusal(f: Facts, rows: [Row; 32]) -> u8
     if free::no_free_address(f, rows) {
         return NO_FREE_ADDRESS;
     }
-    if f.last == free::LAST_TICKET {
+    if f.last == free::HIGHEST_TICKET {
         return NO_TICKET_LEFT;
     }
     0
 }
 
 fn set_out_of_range(from: u8, new: u8) -> bool
-    ensures { λ r. ⌜ r ≡ (ltb 127 new || not (within 0x08 0x77 from)) ⌝ }
+    ensures { λ r. ⌜ r ≡ setOutOfRange from new ⌝ }
 {
     (127 < new) | !((0x08 <= from) & (from <= 0x77))
 }
 
 fn set_not_open(f: Facts, from: u8, new: u8) -> bool
-    ensures { λ r. ⌜ r ≡ (not (isOpen f new) || isLegacy (f .legacy) from) ⌝ }
+    ensures { λ r. ⌜ r ≡ setNotOpen f from new ⌝ }
 {
     let legacy = f.legacy;
     !slots::is_open(f, new) | slots::is_legacy(legacy, from)
 }
 
 fn set_held(rows: [Row; 32], from: u8, new: u8) -> bool
-    ensures { λ r. ⌜ r ≡ (holdsAddress new rows || staticHeld rows from) ⌝ }
+    ensures { λ r. ⌜ r ≡ setHeld rows from new ⌝ }
 {
     rows::holds_address(rows, new) | static_held(rows, from)
 }
@@ -81,7 +96,7 @@ fn set_refusal(f: Facts, rows: [Row; 32], from: u8, new: u8) -> u8
     if free::full(rows) {
         return FULL;
     }
-    if f.last == free::LAST_TICKET {
+    if f.last == free::HIGHEST_TICKET {
         return NO_TICKET_LEFT;
     }
     0
@@ -145,7 +160,7 @@ fn can_set(f: Facts, rows: [Row; 32], from: u8, new: u8) -> bool
         & !static_held(rows, from)
         & free::is_free(f, rows, new)
         & !free::full(rows)
-        & !(f.last == free::LAST_TICKET)
+        & !(f.last == free::HIGHEST_TICKET)
 }
 
 // Whether a move from this present address to this new one can be made.

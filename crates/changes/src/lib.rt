@@ -3,23 +3,10 @@
 // Nothing here judges the rows: every function takes any 32 of them.
 ghost use mathlib.Core.Path.{_≡_};
 ghost use Rattle.lists.specs.Lists.{find};
-ghost use Rattle.rows.specs.Rows.{noRow};
 ghost use Rattle.changes.specs.Changes.{comesBehind, withRow};
 ghost use Rattle.changes.specs.Changes.{without as Changes·without, renewed as Changes·renewed, moved as Changes·moved};
+use rows::NO_ROW;
 use rows::Row;
-
-// An unused place.
-fn no_row() -> Row
-    ensures { λ r. ⌜ r ≡ noRow ⌝ }
-{
-    Row {
-        address: 0,
-        ticket: 0,
-        unknown: false,
-        identity: 0,
-        from_static: 0,
-    }
-}
 
 // Whether a place comes behind a row of this address: it is unused, or its address is higher.
 fn comes_behind(r: Row, address: u8) -> bool
@@ -72,7 +59,7 @@ pub fn without(rows: [Row; 32], place: usize) -> [Row; 32]
         out[i] = rows[i + 1];
         i += 1;
     }
-    out[31] = no_row();
+    out[31] = NO_ROW;
     out
 }
 

@@ -6,7 +6,7 @@ use rows::Row;
 use slots::Facts;
 
 // The highest ticket: after it there is none left.
-pub const LAST_TICKET: u32 = 4294967295;
+pub const HIGHEST_TICKET: u32 = 4294967295;
 
 // Whether an address is free: open, and no row holds it.
 pub fn is_free(f: Facts, rows: [Row; 32], address: u8) -> bool
@@ -64,5 +64,5 @@ pub fn no_free_address(f: Facts, rows: [Row; 32]) -> bool
 pub fn can_assign(f: Facts, rows: [Row; 32]) -> bool
     ensures { λ r. ⌜ r ≡ canAssign f rows ⌝ }
 {
-    !full(rows) & !no_free_address(f, rows) & !(f.last == LAST_TICKET)
+    !full(rows) & !no_free_address(f, rows) & !(f.last == HIGHEST_TICKET)
 }

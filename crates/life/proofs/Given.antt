@@ -12,12 +12,12 @@ use Rattle.lists.proofs.Bools.{both, cond-by}
 use Rattle.lists.proofs.Keeps.{find-lt, found-passes, none-any, all-none, all-at, all-take, all-insert, all-set, all-remove}
 use Rattle.parity.specs.Cells.{stopCell}
 use Rattle.slots.specs.declared.Facts.{Facts}
-use Rattle.rows.specs.Rows.{noRow, inUse, hasAddress, hasTicket, holdsAddress, holdsTicket, holdsIdentity, placeOfAddress, placeOfTicket, placeOfIdentity, rowAt}
+use Rattle.rows.specs.Rows.{noRow, inUse, hasAddress, hasTicket, hasIdentity, holdsAddress, holdsTicket, holdsIdentity, placeOfAddress, placeOfTicket, placeOfIdentity, rowAt}
 use Rattle.rows.specs.declared.Row.{Row}
 use Rattle.changes.specs.Changes.{comesBehind, withRow, without, renewed, renewedRow, moved, movedRow}
-use Rattle.free.specs.Free.{canAssign, isFree}
+use Rattle.free.specs.Free.{isFree, full, lowestFree, addressFor, noFreeAddress, canAssign}
 use Rattle.table.specs.Tickets.{newTicket, ticketed}
-use Rattle.begins.specs.Begins.{askedRight, canMove}
+use Rattle.begins.specs.Begins.{canSet, canMove, askedRight}
 use Rattle.machine.specs.declared.Machine.{Machine}
 use Rattle.machine.specs.declared.Moment.{Moment}
 use Rattle.machine.specs.declared.Moment.the-variants.{Idle, Opened, Round, Listening, Offered, Direct}
@@ -25,6 +25,7 @@ use Rattle.machine.specs.Moments.{idle, goesDirect, rightAt, machineRight}
 use Rattle.machine.specs.Refusals.{stepRefusal, beginRefusal, joinRefusal, identityRefusal, giveUpRefusal, retireRefusal, askRefusal}
 use Rattle.machine.specs.Steps.{Step, did, refuse, beginning, joining, onwardMachine, roundRule, commanded, openedAnswer, roundAnswer, listened, assignedRow, acceptedRows, accepted, declined, setRow, directed, directAnswer, answerAt}
 use Rattle.machine.specs.Calls.{unless, begun, answered, identified, givenUp, joined, retired, asked}
+use Rattle.life.proofs.Table.{free-says, lowest-free}
 use Rattle.life.proofs.Sound.{right-says}
 use Rattle.life.specs.Life.{Call, begin, answer, identity, giveUp, join, retire, ask, stepOf, after}
 
@@ -98,6 +99,148 @@ refused-or P c m h g =
     subst (λ (s : Step). P (s .machine)) (sym (steps-unless c m))
     (cond-by (λ (s : Step). P (s .machine)) (eqb (refusing c m) 0) {x = stepping c m} {y = refuse m (refusing c m)} (λ e. g (acts-right c m e)) (λ e. h))
 
+-- ---- the changes that a call can make
+
+-- P holds of the table as it is, and after each change that a step makes to it
+pub record Changes (P : Facts → List Row → Type 0) (f : Facts) (rows : List Row) : Type 0 where
+  pub as-is : P f rows
+  pub cleared : P f (replicate 32 noRow)
+  pub one-less : (k : ℕ) → P f (without k rows)
+  pub one-moved : (k a : ℕ) → k < length rows → inUse (rowAt rows k) ≡ true → P f (withRow (movedRow a (rowAt rows k)) (without k rows))
+  pub one-renewed : (k : ℕ) → k < length rows → inUse (rowAt rows k) ≡ true → P (ticketed f) (set rows k (renewedRow (newTicket f) (rowAt rows k)))
+  pub one-more : (r : Row) → r .ticket ≡ newTicket f → inUse r ≡ true → full rows ≡ false → P (ticketed f) (withRow r rows)
+
+-- the round rule leaves the table as it is
+pub onward-has : (P : Facts → List Row → Type 0) (on : Bool) (f : Facts) (rows : List Row) (k : ℕ) → P f rows
+    → P (onwardMachine on f rows k .facts) (onwardMachine on f rows k .rows)
+onward-has P true f rows k h = h
+onward-has P false f rows k h = h
+
+-- the row of a move that can be made
+move-held : (f : Facts) (rows : List Row) (choice asked wanted : ℕ) → goesDirect choice ≡ true → eqb choice 2 ≡ false
+    → askedRight f rows choice asked wanted ≡ true → holdsAddress asked rows ≡ true
+unfolding askedRight canMove
+move-held f rows choice asked wanted direct not-set right =
+    let three : choice ≡ 3 = eqb-true choice 3 (rw not-set at direct) in
+    both (holdsAddress asked rows) (isFree f rows wanted) (rw three at right) .0
+
+-- a set that can be made has a new address, and a place
+set-says : (f : Facts) (rows : List Row) (choice asked wanted : ℕ) → eqb choice 2 ≡ true → askedRight f rows choice asked wanted ≡ true
+    → (not (eqb wanted 0) ≡ true) × (full rows ≡ false)
+unfolding askedRight canSet
+set-says f rows choice asked wanted sets right =
+    let two : choice ≡ 2 = eqb-true choice 2 sets in
+    let t = simp and-eq-true-iff at (rw two at right) in
+    (free-says f rows wanted (t .0 .0 .1) .real, not-true (full rows) (t .0 .1))
+
+-- so has an offer to a board that no row knows
+offer-says : (f : Facts) (rows : List Row) (id : ℕ) → canAssign f rows ≡ true → holdsIdentity id rows ≡ false
+    → (not (eqb (addressFor f rows id) 0) ≡ true) × (full rows ≡ false)
+unfolding canAssign addressFor
+offer-says f rows id can none =
+    let t = simp and-eq-true-iff at can in
+    (rw none (free-says f rows (lowestFree f rows) (lowest-free f rows (not-true (noFreeAddress f rows) (t .0 .1))) .real), not-true (full rows) (t .0 .0))
+
+module _ (P : Facts → List Row → Type 0) (f : Facts) (rows : List Row) (ways : Changes P f rows) where
+  -- the row of an address moved
+  moved-leads : (a b : ℕ) → holdsAddress a rows ≡ true → P f (moved (placeOfAddress a rows) b rows)
+  unfolding moved
+  moved-leads a b held =
+      let k = placeOfAddress a rows in
+      let inside : k < length rows = find-lt (hasAddress a) rows held in
+      let t = simp and-eq-true-iff at (found-passes (hasAddress a) rows noRow inside) in
+      cond-by (P f) (ltb k 32) (λ e. ways .one-moved k b inside (t .0)) (λ e. ways .as-is)
+
+  -- the row of an identity renewed
+  renewed-leads : (id : ℕ) → holdsIdentity id rows ≡ true → P (ticketed f) (renewed (placeOfIdentity id rows) (newTicket f) rows)
+  unfolding renewed
+  renewed-leads id held =
+      let k = placeOfIdentity id rows in
+      let inside : k < length rows = find-lt (hasIdentity id) rows held in
+      let t = simp and-eq-true-iff at (found-passes (hasIdentity id) rows noRow inside) in
+      ways .one-renewed k inside (t .0 .0)
+
+module _ (P : Facts → List Row → Type 0) (m : Machine) (ways : Changes P (m .facts) (m .rows)) where
+  -- a step leads to a table with P
+  abbrev Leads : Step → Type 0
+  Leads s = P (s .machine .facts) (s .machine .rows)
+
+  commanded-leads : Leads (commanded m)
+  unfolding commanded roundRule
+  commanded-leads =
+      cond-by Leads (eqb (m .choice) 0) (λ e. onward-has P (canAssign (m .facts) (m .rows)) (m .facts) (m .rows) 0 (ways .as-is))
+      (λ e. cond-by Leads (eqb (m .choice) 1) (λ e. ways .cleared)
+      (λ e. cond-by Leads (eqb (m .choice) 2) (λ e. ways .as-is)
+      (λ e. cond-by Leads (eqb (m .choice) 3) (λ e. ways .as-is)
+      (λ e. cond-by Leads (eqb (m .choice) 4) (λ e. ways .as-is) (λ e. ways .as-is)))))
+
+  opened-leads : (heard : Bool) → Leads (openedAnswer m heard)
+  unfolding openedAnswer
+  opened-leads heard = cond-by Leads heard (λ e. commanded-leads) (λ e. ways .as-is)
+
+  round-leads : (heard : Bool) → Leads (roundAnswer m heard)
+  unfolding roundAnswer
+  round-leads heard = cond-by Leads heard (λ e. ways .as-is) (λ e. ways .as-is)
+
+  accepted-leads : rightAt Offered m ≡ true → Leads (accepted m)
+  unfolding accepted roundRule acceptedRows
+  accepted-leads right =
+      let f = m .facts in
+      let rows = m .rows in
+      let t = simp and-eq-true-iff at right in
+      let offer : m .offered ≡ addressFor f rows (m .identity) = eqb-true (m .offered) (addressFor f rows (m .identity)) (t .1) in
+      let rows′ = acceptedRows rows (m .identity) (m .offered) (newTicket f) in
+      onward-has P (canAssign (ticketed f) rows′) (ticketed f) rows′ 0
+      (cond-by (P (ticketed f)) (holdsIdentity (m .identity) rows)
+      (λ e. renewed-leads P f rows ways (m .identity) e)
+      (λ e.
+      let new = offer-says f rows (m .identity) (t .0 .1) e in
+      ways .one-more (assignedRow (m .offered) (newTicket f) (m .identity)) refl (subst (λ a. not (eqb a 0) ≡ true) (sym offer) (new .0)) (new .1)))
+
+  declined-leads : Leads (declined m)
+  unfolding declined
+  declined-leads = onward-has P (eqb (m .refusals) 0) (m .facts) (m .rows) 1 (ways .as-is)
+
+  directed-leads : rightAt Direct m ≡ true → P (directed m .facts) (directed m .rows)
+  unfolding directed
+  directed-leads right =
+      let t = simp and-eq-true-iff at right in
+      cond-by (λ (n : Machine). P (n .facts) (n .rows)) (eqb (m .choice) 2)
+      (λ e.
+      let new = set-says (m .facts) (m .rows) (m .choice) (m .asked) (m .wanted) e (t .1 .0 .0) in
+      ways .one-more (setRow (m .wanted) (newTicket (m .facts)) (m .asked)) refl (new .0) (new .1))
+      (λ e.
+      moved-leads P (m .facts) (m .rows) ways (m .asked) (m .wanted)
+      (move-held (m .facts) (m .rows) (m .choice) (m .asked) (m .wanted) (t .0) e (t .1 .0 .0)))
+
+  direct-leads : rightAt Direct m ≡ true → (heard : Bool) → Leads (directAnswer m heard)
+  unfolding directAnswer
+  direct-leads right heard = cond-by Leads heard (λ e. directed-leads right) (λ e. ways .as-is)
+
+  -- an answer at each moment of a right machine
+  answer-leads : (x : Moment) → rightAt x m ≡ true → (heard : Bool) → Leads (answerAt x m heard)
+  answer-leads Idle right heard = ways .as-is
+  answer-leads Opened right heard = opened-leads heard
+  answer-leads Round right heard = round-leads heard
+  answer-leads Listening right heard = ways .as-is
+  answer-leads Offered right heard = cond-by Leads heard {x = accepted m} {y = declined m} (λ e. accepted-leads right) (λ e. declined-leads)
+  answer-leads Direct right heard = direct-leads right heard
+
+  -- each step of a right machine
+  stepping-leads : (c : Call) → machineRight m ≡ true → Leads (stepping c m)
+  unfolding beginning listened joining
+  stepping-leads (begin choice static new ticket room) right = ways .as-is
+  stepping-leads (answer heard room) right = answer-leads (m .moment) (right-says m right .1) heard
+  stepping-leads (identity bytes room) right = ways .as-is
+  stepping-leads (giveUp room) right = ways .as-is
+  stepping-leads (join choice room) right = cond-by Leads (eqb choice 0) (λ e. ways .as-is) (λ e. ways .as-is)
+  stepping-leads (retire ticket) right = ways .one-less (placeOfTicket ticket (m .rows))
+  stepping-leads (ask ticket) right = ways .as-is
+
+  -- and any call of any machine
+  pub call-leads : (c : Call) → P (after c m .facts) (after c m .rows)
+  call-leads c = refused-or (λ (n : Machine). P (n .facts) (n .rows)) c m (ways .as-is) (stepping-leads c)
+
 -- ---- the tickets after a change of the rows, beside those before it
 
 -- the last ticket stays or becomes the next; and one that no row had, and that does not lie above the old last and up to the new, no row has
@@ -138,145 +281,32 @@ gave f rows rows′ h = record {
   only = λ t old none. all-none (hasTicket t) rows′ (h t (λ e. old (omega (arith, e)) (omega (arith, e))) (none-any (hasTicket t) rows none));
 }
 
--- ---- each change of the rows
-
 -- what every row passes, and one more, every row passes with that one put in
-all-with : (p : Row → Bool) (r : Row) → p r ≡ true → (rows : List Row) → all p rows ≡ true → all p (withRow r rows) ≡ true
+pub all-with : (p : Row → Bool) (r : Row) → p r ≡ true → (rows : List Row) → all p rows ≡ true → all p (withRow r rows) ≡ true
 unfolding withRow
 all-with p r e rows h = all-take p 32 (insertBy (comesBehind (r .address)) r rows) (all-insert p (comesBehind (r .address)) r e rows h)
 
-module _ (f : Facts) (rows : List Row) where
-  unchanged : Grows f rows f rows
-  unchanged = kept f rows rows (λ t h. h)
-
-  cleared : Grows f rows f (replicate 32 noRow)
-  cleared = kept f rows (replicate 32 noRow) (λ t h. refl)
-
-  one-less : (k : ℕ) → Grows f rows f (without k rows)
-  unfolding without
-  one-less k = kept f rows (without k rows) (λ t h. all-remove (lacks t) noRow refl rows k h)
-
-  -- a row that is moved keeps its ticket
-  one-moved : (a b : ℕ) → holdsAddress a rows ≡ true → Grows f rows f (moved (placeOfAddress a rows) b rows)
-  unfolding moved without
-  one-moved a b held =
-      let k = placeOfAddress a rows in
+-- the tickets after each change
+changes-grow : (f : Facts) (rows : List Row) → Changes (Grows f rows) f rows
+unfolding without
+changes-grow f rows = record {
+  as-is = kept f rows rows (λ t h. h);
+  cleared = kept f rows (replicate 32 noRow) (λ t h. refl);
+  one-less = λ k. kept f rows (without k rows) (λ t h. all-remove (lacks t) noRow refl rows k h);
+  one-moved =
+      λ k a inside live.
       let old = rowAt rows k in
-      let inside : k < length rows = find-lt (hasAddress a) rows held in
-      let in-use : inUse old ≡ true = both (inUse old) (eqb (old .address) a) (found-passes (hasAddress a) rows noRow inside) .0 in
-      let lacks-too : (t : ℕ) → all (lacks t) rows ≡ true → lacks t (movedRow b old) ≡ true =
-      λ t h. lacks-other t (movedRow b old) (λ u. other-lacks t old (all-at (lacks t) rows k noRow h inside) in-use) in
-      cond-by (Grows f rows f) (ltb k 32)
-      (λ e. kept f rows (withRow (movedRow b old) (without k rows))
-      (λ t h. all-with (lacks t) (movedRow b old) (lacks-too t h) (without k rows) (all-remove (lacks t) noRow refl rows k h)))
-      (λ e. unchanged)
+      kept f rows (withRow (movedRow a old) (without k rows))
+      (λ t h.
+      all-with (lacks t) (movedRow a old) (lacks-other t (movedRow a old) (λ u. other-lacks t old (all-at (lacks t) rows k noRow h inside) live)) (without k rows)
+      (all-remove (lacks t) noRow refl rows k h));
+  one-renewed =
+      λ k inside live.
+      let new = renewedRow (newTicket f) (rowAt rows k) in
+      gave f rows (set rows k new) (λ t h g. all-set (lacks t) new (lacks-other t new (λ u. h)) rows k g);
+  one-more = λ r e live room. gave f rows (withRow r rows) (λ t h g. all-with (lacks t) r (lacks-other t r (λ u z. h (sym e ∙ z))) rows g);
+}
 
-  -- a row with the new ticket, put in or set in the stead of another
-  module _ (r : Row) (e : r .ticket ≡ newTicket f) where
-    new-lacks : (t : ℕ) → (newTicket f ≡ t → ⊥) → lacks t r ≡ true
-    new-lacks t h = lacks-other t r (λ u z. h (sym e ∙ z))
-
-    one-more : Grows f rows (ticketed f) (withRow r rows)
-    one-more = gave f rows (withRow r rows) (λ t h g. all-with (lacks t) r (new-lacks t h) rows g)
-
-    one-set : (k : ℕ) → Grows f rows (ticketed f) (set rows k r)
-    one-set k = gave f rows (set rows k r) (λ t h g. all-set (lacks t) r (new-lacks t h) rows k g)
-
--- ---- each step
-
--- the table of a machine, beside that of another
-abbrev pub Grown : Machine → Machine → Type 0
-Grown m m′ = Grows (m .facts) (m .rows) (m′ .facts) (m′ .rows)
-
--- the round rule leaves the table as it is
-pub onward-has : (P : Facts → List Row → Type 0) (on : Bool) (f : Facts) (rows : List Row) (k : ℕ) → P f rows
-    → P (onwardMachine on f rows k .facts) (onwardMachine on f rows k .rows)
-onward-has P true f rows k h = h
-onward-has P false f rows k h = h
-
--- the row of a move that can be made
-move-held : (f : Facts) (rows : List Row) (choice asked wanted : ℕ) → goesDirect choice ≡ true → eqb choice 2 ≡ false
-    → askedRight f rows choice asked wanted ≡ true → holdsAddress asked rows ≡ true
-unfolding askedRight canMove
-move-held f rows choice asked wanted direct not-set right =
-    let three : choice ≡ 3 = eqb-true choice 3 (rw not-set at direct) in
-    both (holdsAddress asked rows) (isFree f rows wanted) (rw three at right) .0
-
-module _ (m : Machine) where
-  -- a step leads to a machine that has grown so
-  abbrev Leads : Step → Type 0
-  Leads s = Grown m (s .machine)
-
-  same : Grown m m
-  same = unchanged (m .facts) (m .rows)
-
-  commanded-grows : Leads (commanded m)
-  unfolding commanded roundRule
-  commanded-grows =
-      cond-by Leads (eqb (m .choice) 0) (λ e. onward-has (Grows (m .facts) (m .rows)) (canAssign (m .facts) (m .rows)) (m .facts) (m .rows) 0 same)
-      (λ e. cond-by Leads (eqb (m .choice) 1) (λ e. cleared (m .facts) (m .rows))
-      (λ e. cond-by Leads (eqb (m .choice) 2) (λ e. same)
-      (λ e. cond-by Leads (eqb (m .choice) 3) (λ e. same)
-      (λ e. cond-by Leads (eqb (m .choice) 4) (λ e. same) (λ e. same)))))
-
-  opened-grows : (heard : Bool) → Leads (openedAnswer m heard)
-  unfolding openedAnswer
-  opened-grows heard = cond-by Leads heard (λ e. commanded-grows) (λ e. same)
-
-  round-grows : (heard : Bool) → Leads (roundAnswer m heard)
-  unfolding roundAnswer
-  round-grows heard = cond-by Leads heard (λ e. same) (λ e. same)
-
-  accepted-grows : Leads (accepted m)
-  unfolding accepted roundRule acceptedRows renewed
-  accepted-grows =
-      let f = m .facts in
-      let rows = m .rows in
-      let k = placeOfIdentity (m .identity) rows in
-      let rows′ = acceptedRows rows (m .identity) (m .offered) (newTicket f) in
-      onward-has (Grows f rows) (canAssign (ticketed f) rows′) (ticketed f) rows′ 0
-      (cond-by (Grows f rows (ticketed f)) (holdsIdentity (m .identity) rows)
-      (λ e. one-set f rows (renewedRow (newTicket f) (rowAt rows k)) refl k)
-      (λ e. one-more f rows (assignedRow (m .offered) (newTicket f) (m .identity)) refl))
-
-  declined-grows : Leads (declined m)
-  unfolding declined
-  declined-grows = onward-has (Grows (m .facts) (m .rows)) (eqb (m .refusals) 0) (m .facts) (m .rows) 1 same
-
-  directed-grows : rightAt Direct m ≡ true → Grown m (directed m)
-  unfolding directed
-  directed-grows right =
-      let t = simp and-eq-true-iff at right in
-      cond-by (Grown m) (eqb (m .choice) 2)
-      (λ e. one-more (m .facts) (m .rows) (setRow (m .wanted) (newTicket (m .facts)) (m .asked)) refl)
-      (λ e. one-moved (m .facts) (m .rows) (m .asked) (m .wanted) (move-held (m .facts) (m .rows) (m .choice) (m .asked) (m .wanted) (t .0) e (t .1 .0 .0)))
-
-  direct-grows : rightAt Direct m ≡ true → (heard : Bool) → Leads (directAnswer m heard)
-  unfolding directAnswer
-  direct-grows right heard = cond-by Leads heard (λ e. directed-grows right) (λ e. same)
-
-  -- an answer at each moment of a right machine
-  answer-grows : (x : Moment) → rightAt x m ≡ true → (heard : Bool) → Leads (answerAt x m heard)
-  answer-grows Idle right heard = same
-  answer-grows Opened right heard = opened-grows heard
-  answer-grows Round right heard = round-grows heard
-  answer-grows Listening right heard = same
-  answer-grows Offered right heard = cond-by Leads heard {x = accepted m} {y = declined m} (λ e. accepted-grows) (λ e. declined-grows)
-  answer-grows Direct right heard = direct-grows right heard
-
--- ---- each call
-
--- what a step of a right machine leads to
-stepping-grows : (c : Call) (m : Machine) → machineRight m ≡ true → Grown m (stepping c m .machine)
-unfolding beginning listened joining
-stepping-grows (begin choice static new ticket room) m right = same m
-stepping-grows (answer heard room) m right = answer-grows m (m .moment) (right-says m right .1) heard
-stepping-grows (identity bytes room) m right = same m
-stepping-grows (giveUp room) m right = same m
-stepping-grows (join choice room) m right = cond-by (Leads m) (eqb choice 0) (λ e. same m) (λ e. same m)
-stepping-grows (retire ticket) m right = one-less (m .facts) (m .rows) (placeOfTicket ticket (m .rows))
-stepping-grows (ask ticket) m right = same m
-
--- and any call of any machine
-pub grows : (c : Call) (m : Machine) → Grown m (after c m)
-grows c m = refused-or (Grown m) c m (same m) (stepping-grows c m)
+-- and after any call of any machine
+pub grows : (c : Call) (m : Machine) → Grows (m .facts) (m .rows) (after c m .facts) (after c m .rows)
+grows c m = call-leads (Grows (m .facts) (m .rows)) m (changes-grow (m .facts) (m .rows)) c

@@ -3,3 +3,4 @@ pub mod Begins
 pub mod Sound
 pub mod Given
 pub mod Tickets
+pub mod Boards

@@ -8,7 +8,7 @@ use lib.ListN.{length, replicate}
 use borrow.Author.Tests.{eqb-true, eq-eqb, not-false}
 use Rattle.lists.specs.Numbers.{numbers}
 use Rattle.lists.specs.Bits.{bit}
-use Rattle.lists.proofs.Bools.{both, and, cond-by, not-refused}
+use Rattle.lists.proofs.Bools.{both, and, cond-by, not-refused, or-right}
 use Rattle.parity.specs.Cells.{stopCell}
 use Rattle.slots.specs.Slots.{isLegacy, legacyRight, factsRight, refusedFacts, checked}
 use Rattle.slots.specs.declared.Facts.{Facts}
@@ -115,8 +115,8 @@ module _ (m : Machine) (h : sound (m .facts) (m .rows) ≡ true) where
   commanded-right a =
       cond-by Right (eqb (m .choice) 0) (λ e. round-rule-right (m .facts) (m .rows) h _) λ _.
       cond-by Right (eqb (m .choice) 1) (λ e. idle-right (m .facts) (replicate 32 noRow) (empty-sound (m .facts) (sound-says h .facts))) λ _.
-      cond-by Right (eqb (m .choice) 2) (λ e. direct-right (m .facts) (m .rows) h 2 (m .asked) (m .wanted) refl (asked-by 2 e a)) λ _.
-      cond-by Right (eqb (m .choice) 3) (λ e. direct-right (m .facts) (m .rows) h 3 (m .asked) (m .wanted) refl (asked-by 3 e a)) λ _.
+      cond-by Right (eqb (m .choice) 2) (λ e. direct-right (m .facts) (m .rows) h (m .choice) (m .asked) (m .wanted) (rw e) a) λ _.
+      cond-by Right (eqb (m .choice) 3) (λ e. direct-right (m .facts) (m .rows) h (m .choice) (m .asked) (m .wanted) (or-right (eqb (m .choice) 2) e) a) λ _.
       cond-by Right (eqb (m .choice) 4) (λ e. back-to-idle) (λ e. back-to-idle)
 
   -- opened, with an answer or none

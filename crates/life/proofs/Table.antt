@@ -188,13 +188,13 @@ new-fresh f y h u =
 -- ---- a free address
 
 -- it is open, not 0, and no row's
-record Free (f : Facts) (rows : List Row) (a : ℕ) : Type 0 where
-  opens : isOpen f a ≡ true
-  real : not (eqb a 0) ≡ true
-  elsewhere : all (λ y. not (hasAddress a y)) rows ≡ true
+pub record Free (f : Facts) (rows : List Row) (a : ℕ) : Type 0 where
+  pub opens : isOpen f a ≡ true
+  pub real : not (eqb a 0) ≡ true
+  pub elsewhere : all (λ y. not (hasAddress a y)) rows ≡ true
 
 -- the test says it
-free-says : (f : Facts) (rows : List Row) (a : ℕ) → isFree f rows a ≡ true → Free f rows a
+pub free-says : (f : Facts) (rows : List Row) (a : ℕ) → isFree f rows a ≡ true → Free f rows a
 unfolding isFree
 free-says f rows a h =
     let t = both (isOpen f a) (not (holdsAddress a rows)) h in
@@ -205,7 +205,7 @@ free-says f rows a h =
     }
 
 -- if there is any, the lowest is one
-lowest-free : (f : Facts) (rows : List Row) → noFreeAddress f rows ≡ false → isFree f rows (lowestFree f rows) ≡ true
+pub lowest-free : (f : Facts) (rows : List Row) → noFreeAddress f rows ≡ false → isFree f rows (lowestFree f rows) ≡ true
 unfolding lowestFree
 lowest-free f rows h = first-passes (isFree f rows) 0x00 128 (eqb-false (lowestFree f rows) 0 (lowest-none f rows ∙ h))
 

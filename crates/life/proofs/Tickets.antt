@@ -58,7 +58,7 @@ new-all p others (r ∷ rows) h =
 
 module _ (c : Call) (m : Machine) where
   -- what holds of the next ticket once it is the last holds of each that a call gives
-  given-all : (p : ℕ → Bool) → ((t : ℕ) → newTicket (m .facts) ≡ t → after c m .facts .last ≡ t → p t ≡ true) → all p (given c m) ≡ true
+  pub given-all : (p : ℕ → Bool) → ((t : ℕ) → newTicket (m .facts) ≡ t → after c m .facts .last ≡ t → p t ≡ true) → all p (given c m) ≡ true
   given-all p h =
       new-all p (m .rows) (after c m .rows)
       (λ t e. grows c m .only t
@@ -107,7 +107,7 @@ stays : (c : Call) (m : Machine) → machineRight m ≡ false → after c m ≡ 
 stays c m broken = refused-or (λ (m′ : Machine). m′ ≡ m) c m refl (λ right. absurd (true≢false (sym right ∙ broken)))
 
 -- a call gives one at most
-one-given : (c : Call) (m : Machine) → pairwise ltb (given c m) ≡ true
+pub one-given : (c : Call) (m : Machine) → pairwise ltb (given c m) ≡ true
 one-given c m = go (machineRight m) refl
   where
     none : (l : List ℕ) → all (λ t. false) l ≡ true → pairwise ltb l ≡ true
@@ -250,7 +250,7 @@ given-ticket f r h u =
     let t = simp and-eq-true-iff at (rw u at h) in
     (leb-true 1 (r .ticket) (t .0 .0 .1 .0), leb-true (r .ticket) (f .last) (t .0 .0 .1 .1))
 
-lacks-next : (f : Facts) (r : Row) → rowRight f r ≡ true → lacks (newTicket f) r ≡ true
+pub lacks-next : (f : Facts) (r : Row) → rowRight f r ≡ true → lacks (newTicket f) r ≡ true
 lacks-next f r h = lacks-other (newTicket f) r (λ u e. omega (arith, e, given-ticket f r h u .1))
 
 -- the row with the identity, renewed

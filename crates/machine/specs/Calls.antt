@@ -13,7 +13,7 @@ use Rattle.changes.specs.Changes.{without}
 use Rattle.machine.specs.declared.Machine.{Machine}
 use Rattle.machine.specs.declared.did.Did.{Did}
 use Rattle.machine.specs.declared.Stepped.{Stepped}
-use Rattle.machine.specs.declared.Asked.{Asked}
+use Rattle.machine.specs.declared.TicketAnswer.{TicketAnswer}
 use Rattle.machine.specs.Moments.{idle}
 use Rattle.machine.specs.Refusals.{stepRefusal, beginRefusal, joinRefusal, identityRefusal, giveUpRefusal, retireRefusal, askRefusal}
 use Rattle.machine.specs.Steps.{Step, did, refuse, addressOf, beginning, joining, listened, answerAt}
@@ -51,7 +51,7 @@ unfoldable pub retired : Machine → ℕ → Step
 retired m ticket = unless (retireRefusal m ticket) m (did (idle (m .facts) (without (placeOfTicket ticket (m .rows)) (m .rows))) [])
 
 -- asking for a ticket gives its present address, or 0 with the refusal
-unfoldable pub asked : Machine → ℕ → Asked
+unfoldable pub asked : Machine → ℕ → TicketAnswer
 asked m ticket = record { address = cond (eqb (askRefusal m ticket) 0) (addressOf (m .rows) ticket) 0; refusal = askRefusal m ticket }
 
 -- ---- what the caller is handed, and what stands in the lent cells

@@ -31,10 +31,10 @@ joinRefusal m choice room = stepRefusal room m (idleRefusal m (joiningRefusal (m
 
 -- an identity is for listening, and has eight bytes
 unfoldable pub identityRefusal : Machine → ℕ → ℕ → ℕ
-identityRefusal m bytes room =
+identityRefusal m byteCount room =
     stepRefusal room m
     (cond (not (isListening (m .moment))) 10
-    (cond (not (eqb bytes 8)) 2
+    (cond (not (eqb byteCount 8)) 2
     0))
 
 -- giving up is for any moment but idle

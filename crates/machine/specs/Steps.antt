@@ -75,16 +75,24 @@ roundRule f rows cells = onward (canAssign f rows) f rows 0 cells
 
 -- ---- opened
 
+-- a set's or a move's command, and on to direct; a command about joining, and back to idle
+abbrev pub onToDirect : Machine → ℕ → Step
+onToDirect m command =
+    did (direct (m .facts) (m .rows) (m .choice) (m .asked) (m .wanted)) (broadcastWrite true ∷ command ∷ repeatedStartCell ∷ [])
+
+abbrev pub aboutJoining : Machine → ℕ → Step
+aboutJoining m command = did (idle (m .facts) (m .rows)) (broadcastWrite true ∷ command ∷ joiningCell ∷ stopCell ∷ [])
+
 -- answer: 504, then by command: 0 assign 14 and the round rule; 1 reset all 13, 514, all rows go; 2 set from static 271, 513, direct; 3 move 273, 513,
 -- direct; 4 silence 2, 16, 514; 5 allow 1, 16, 514
 unfoldable pub commanded : Machine → Step
 commanded m =
     cond (eqb (m .choice) 0) (roundRule (m .facts) (m .rows) (broadcastWrite true ∷ assignCell ∷ []))
     (cond (eqb (m .choice) 1) (did (idle (m .facts) (replicate 32 noRow)) (broadcastWrite true ∷ resetAllCell ∷ stopCell ∷ []))
-    (cond (eqb (m .choice) 2) (did (direct (m .facts) (m .rows) 2 (m .asked) (m .wanted)) (broadcastWrite true ∷ setFromStaticCell ∷ repeatedStartCell ∷ []))
-    (cond (eqb (m .choice) 3) (did (direct (m .facts) (m .rows) 3 (m .asked) (m .wanted)) (broadcastWrite true ∷ moveCell ∷ repeatedStartCell ∷ []))
-    (cond (eqb (m .choice) 4) (did (idle (m .facts) (m .rows)) (broadcastWrite true ∷ silenceCell ∷ joiningCell ∷ stopCell ∷ []))
-    (did (idle (m .facts) (m .rows)) (broadcastWrite true ∷ allowCell ∷ joiningCell ∷ stopCell ∷ []))))))
+    (cond (eqb (m .choice) 2) (onToDirect m setFromStaticCell)
+    (cond (eqb (m .choice) 3) (onToDirect m moveCell)
+    (cond (eqb (m .choice) 4) (aboutJoining m silenceCell)
+    (aboutJoining m allowCell)))))
 
 -- no answer: 505, 514; idle, nothing changed
 unfoldable pub openedAnswer : Machine → Bool → Step

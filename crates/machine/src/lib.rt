@@ -65,7 +65,7 @@ pub struct Stepped {
 }
 
 // What is said of a ticket: its present address, or 0 and a refusal.
-pub struct Asked {
+pub struct TicketAnswer {
     pub address: u8,
     pub refusal: u8,
 }
@@ -86,18 +86,18 @@ pub fn start(flags: u8, legacy: &[u8], last: u32) -> Stepped
 }
 
 // What a step comes to for the caller: its cells go to the front of the lent ones.
-fn emit(did: Did, cells: &mut [u16]) -> Stepped
-    requires { ⌜ (did .count ≤ 8) × (did .count ≤ length (now cells)) ⌝ }
-    ensures { λ r. ⌜ r ≡ record { machine = did .machine; count = did .count; refusal = did .refusal } ⌝ }
-    ensures { λ _. ⌜ now (cells .exit) ≡ take (did .count) (did .out) ++ drop (did .count) (now (cells .entry)) ⌝ }
+fn emit(step: Did, cells: &mut [u16]) -> Stepped
+    requires { ⌜ (step .count ≤ 8) × (step .count ≤ length (now cells)) ⌝ }
+    ensures { λ r. ⌜ r ≡ record { machine = step .machine; count = step .count; refusal = step .refusal } ⌝ }
+    ensures { λ _. ⌜ now (cells .exit) ≡ take (step .count) (step .out) ++ drop (step .count) (now (cells .entry)) ⌝ }
 {
-    let out = did.out;
-    let machine = did.machine;
-    put(cells, out, did.count);
+    let out = step.out;
+    let machine = step.machine;
+    put(cells, out, step.count);
     Stepped {
         machine,
-        count: did.count,
-        refusal: did.refusal,
+        count: step.count,
+        refusal: step.refusal,
     }
 }
 
@@ -176,14 +176,14 @@ fn joined(m: Machine, choice: u8, room: usize) -> Did
 }
 
 impl Machine {
-    // Begins, at idle: choice 0 assign, 1 reset all, 2 set from static, 3 move, 4 silence joining, 5 allow joining. A set takes the static and the
+    // Begins, at idle: choice 0 assign, 1 reset all, 2 set from static, 3 move, 4 silence joining, 5 allow joining (`begins` names them). A set takes the static and the
     // new address, a move the ticket and the new address; what a choice does not take is not judged.
     pub fn begin(self, choice: u8, from: u8, new: u8, ticket: u32, cells: &mut [u16]) -> Stepped
         ensures { λ r. ⌜ r ≡ stepped (Calls·begun self choice from new ticket (length (now (cells .entry)))) ⌝ }
         ensures { λ r. ⌜ now (cells .exit) ≡ written (Calls·begun self choice from new ticket (length (now (cells .entry)))) (now (cells .entry)) ⌝ }
     {
-        let did = begun(self, choice, from, new, ticket, cells.len());
-        emit(did, cells)
+        let step = begun(self, choice, from, new, ticket, cells.len());
+        emit(step, cells)
     }
 
     // An answer, or none, to the header or the offered address that went out last: at opened, round, offered and direct.
@@ -191,8 +191,8 @@ impl Machine {
         ensures { λ r. ⌜ r ≡ stepped (Calls·answered self heard (length (now (cells .entry)))) ⌝ }
         ensures { λ r. ⌜ now (cells .exit) ≡ written (Calls·answered self heard (length (now (cells .entry)))) (now (cells .entry)) ⌝ }
     {
-        let did = answered(self, heard, cells.len());
-        emit(did, cells)
+        let step = answered(self, heard, cells.len());
+        emit(step, cells)
     }
 
     // The eight bytes of the identity that won the round, highest first: at listening.
@@ -200,8 +200,8 @@ impl Machine {
         ensures { λ r. ⌜ r ≡ stepped (Calls·identified self (now (bytes .entry)) (length (now (cells .entry)))) ⌝ }
         ensures { λ r. ⌜ now (cells .exit) ≡ written (Calls·identified self (now (bytes .entry)) (length (now (cells .entry)))) (now (cells .entry)) ⌝ }
     {
-        let did = identified(self, bytes, cells.len());
-        emit(did, cells)
+        let step = identified(self, bytes, cells.len());
+        emit(step, cells)
     }
 
     // Back to idle with a STOP, rows unchanged: at any moment but idle.
@@ -209,8 +209,8 @@ impl Machine {
         ensures { λ r. ⌜ r ≡ stepped (givenUp self (length (now (cells .entry)))) ⌝ }
         ensures { λ r. ⌜ now (cells .exit) ≡ written (givenUp self (length (now (cells .entry)))) (now (cells .entry)) ⌝ }
     {
-        let did = given_up(self, cells.len());
-        emit(did, cells)
+        let step = given_up(self, cells.len());
+        emit(step, cells)
     }
 
     // A board asks to join, at idle: choice 0 turns it away, 1 answers and then silences joining, 2 answers and then assigns.
@@ -218,8 +218,8 @@ impl Machine {
         ensures { λ r. ⌜ r ≡ stepped (Calls·joined self choice (length (now (cells .entry)))) ⌝ }
         ensures { λ r. ⌜ now (cells .exit) ≡ written (Calls·joined self choice (length (now (cells .entry)))) (now (cells .entry)) ⌝ }
     {
-        let did = joined(self, choice, cells.len());
-        emit(did, cells)
+        let step = joined(self, choice, cells.len());
+        emit(step, cells)
     }
 
     // Removes the row of a ticket, at idle.
@@ -246,18 +246,18 @@ impl Machine {
     }
 
     // The present address of a ticket, at any moment.
-    pub fn ask(self, ticket: u32) -> Asked
+    pub fn ask(self, ticket: u32) -> TicketAnswer
         ensures { λ r. ⌜ r ≡ asked self ticket ⌝ }
     {
         let refusal = refusals::ask_refusal(self, ticket);
         if refusal != 0 {
-            return Asked {
+            return TicketAnswer {
                 address: 0,
                 refusal,
             };
         }
         let rows = self.rows;
-        Asked {
+        TicketAnswer {
             address: steps::address_of(rows, ticket),
             refusal: 0,
         }

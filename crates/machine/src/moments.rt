@@ -2,11 +2,14 @@
 ghost use mathlib.Core.Path.{_≡_};
 ghost use lib.ListN.{replicate};
 ghost use Rattle.rows.specs.Rows.{noRow};
-ghost use Rattle.machine.specs.Moments.{nothingAsked, nothingOffered, inRounds, asksRight, rightAt, momentRight, machineRight, isIdle, isListening};
+ghost use Rattle.machine.specs.Moments.{nothingAsked, nothingOffered, inRounds, goesDirect, asksRight, rightAt, momentRight, machineRight, isIdle, isListening};
 ghost use Rattle.machine.specs.Moments.{idle as Moments·idle, opened as Moments·opened, direct as Moments·direct, round as Moments·round, listening as Moments·listening, offering as Moments·offering};
 ghost use Rattle.machine.specs.declared.Moment.the-variants.{Offered};
 use crate::Machine;
 use crate::Moment;
+use begins::MOVE;
+use begins::SET_FROM_STATIC;
+use rows::NO_ROW;
 use rows::Row;
 use slots::Facts;
 
@@ -14,13 +17,7 @@ use slots::Facts;
 pub fn no_rows() -> [Row; 32]
     ensures { λ r. ⌜ r ≡ replicate 32 noRow ⌝ }
 {
-    [Row {
-        address: 0,
-        ticket: 0,
-        unknown: false,
-        identity: 0,
-        from_static: 0,
-    }; 32]
+    [NO_ROW; 32]
 }
 
 // ---- one machine for each moment: what the moment does not need is 0
@@ -135,13 +132,20 @@ fn nothing_offered(m: Machine) -> bool
     (m.identity == 0) & (m.offered == 0)
 }
 
-// In an assign's rounds: at most one refusal, and the table can give one row more.
+// In an assign's rounds: nothing asked, at most one refusal, and the table can give one row more.
 fn in_rounds(m: Machine) -> bool
     ensures { λ r. ⌜ r ≡ inRounds m ⌝ }
 {
     let f = m.facts;
     let rows = m.rows;
     nothing_asked(m) & (m.refusals < 2) & free::can_assign(f, rows)
+}
+
+// Whether a choice comes to direct: a set or a move.
+pub fn goes_direct(choice: u8) -> bool
+    ensures { λ r. ⌜ r ≡ goesDirect choice ⌝ }
+{
+    (choice == SET_FROM_STATIC) | (choice == MOVE)
 }
 
 // The choice and the addresses asked are what these rows allow, and there is nothing else.
@@ -175,7 +179,7 @@ fn moment_right(m: Machine) -> bool
         Moment::Round => in_rounds(m) & nothing_offered(m),
         Moment::Listening => in_rounds(m) & nothing_offered(m),
         Moment::Offered => offers_right(m),
-        Moment::Direct => ((m.choice == 2) | (m.choice == 3)) & asks_right(m),
+        Moment::Direct => goes_direct(m.choice) & asks_right(m),
     }
 }
 

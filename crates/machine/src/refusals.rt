@@ -58,8 +58,8 @@ pub fn join_refusal(m: Machine, choice: u8, room: usize) -> u8
     begins::joining_refusal(f, rows, choice)
 }
 
-pub fn identity_refusal(m: Machine, bytes: usize, room: usize) -> u8
-    ensures { λ r. ⌜ r ≡ identityRefusal m bytes room ⌝ }
+pub fn identity_refusal(m: Machine, count: usize, room: usize) -> u8
+    ensures { λ r. ⌜ r ≡ identityRefusal m count room ⌝ }
 {
     let refusal = step_refusal(m, room);
     if refusal != 0 {
@@ -68,7 +68,7 @@ pub fn identity_refusal(m: Machine, bytes: usize, room: usize) -> u8
     if !moments::is_listening(m) {
         return WRONG_MOMENT;
     }
-    if bytes != 8 {
+    if count != 8 {
         return slots::OUT_OF_RANGE;
     }
     0

@@ -6,19 +6,24 @@ ghost use lib.Dec.{eqb};
 ghost use lib.ListN.{length};
 ghost use Rattle.table.specs.Tickets.{ticketed as Tickets·ticketed};
 ghost use Rattle.machine.specs.Calls.{laid};
-ghost use Rattle.machine.specs.Steps.{addressOf, addressAsked, addressWanted, beginning, joining, onwardMachine, onwardCell, openedAnswer, roundAnswer, acceptedRows, offeredAnswer, directAnswer};
+ghost use Rattle.machine.specs.Steps.{addressOf, addressAsked, addressWanted, beginning, joining, onwardMachine, onwardCell, onToDirect, aboutJoining, openedAnswer, roundAnswer, acceptedRows, offeredAnswer, directAnswer};
 ghost use Rattle.machine.specs.Steps.{commanded as Steps·commanded, listened as Steps·listened, accepted as Steps·accepted, declined as Steps·declined, directed as Steps·directed};
 use crate::Machine;
 use crate::did;
 use crate::did::Did;
 use crate::identities;
 use crate::moments;
+use begins::ASSIGN;
+use begins::JOIN_REFUSED;
+use begins::JOIN_SILENCED;
+use begins::SET_FROM_STATIC;
+use begins::SILENCE;
 use rows::Row;
 use slots::Facts;
 
 // ---- Begin and Join
 
-// The address that a choice asks: the static address, or the present one of the ticket's row.
+// The address that a choice asks: the static address for a set, the present one of the ticket's row for a move, 0 for the others.
 fn address_asked(rows: [Row; 32], choice: u8, from: u8, ticket: u32) -> u8
     ensures { λ r. ⌜ r ≡ addressAsked rows choice from ticket ⌝ }
 {
@@ -37,7 +42,7 @@ pub fn address_of(rows: [Row; 32], ticket: u32) -> u8
     if place < 32 { rows[place].address } else { 0 }
 }
 
-// The new address that a choice wants.
+// The new address that a choice wants, 0 for those that want none.
 fn address_wanted(choice: u8, new: u8) -> u8
     ensures { λ r. ⌜ r ≡ addressWanted choice new ⌝ }
 {
@@ -71,7 +76,7 @@ pub fn join(m: Machine, choice: u8) -> Did
 {
     let f = m.facts;
     let rows = m.rows;
-    if choice == 0 {
+    if choice == JOIN_REFUSED {
         let next = moments::idle(f, rows);
         did::three(next, parity::START, parity::HOT_JOIN_REFUSED, parity::STOP)
     } else {
@@ -90,7 +95,11 @@ pub fn join(m: Machine, choice: u8) -> Did
 fn joined_for(choice: u8) -> u8
     ensures { λ r. ⌜ r ≡ cond (eqb choice 1) 4 0 ⌝ }
 {
-    if choice == 1 { 4 } else { 0 }
+    if choice == JOIN_SILENCED {
+        SILENCE
+    } else {
+        ASSIGN
+    }
 }
 
 // ---- the round rule
@@ -106,7 +115,7 @@ fn onward_machine(on: bool, f: Facts, rows: [Row; 32], refusals: u8) -> Machine
     }
 }
 
-// That cell.
+// That cell: REPEATED_START before a round, STOP before idle.
 fn onward_cell(on: bool) -> u16
     ensures { λ r. ⌜ r ≡ onwardCell on ⌝ }
 {
@@ -118,6 +127,37 @@ fn onward_cell(on: bool) -> u16
 }
 
 // ---- opened
+
+// A set's or a move's command, and on to direct: 504, the command, 513.
+fn on_to_direct(m: Machine, command: u16) -> Did
+    ensures { λ r. ⌜ r ≡ laid (onToDirect m command) ⌝ }
+{
+    let f = m.facts;
+    let rows = m.rows;
+    let next = moments::direct(f, rows, m.choice, m.asked, m.wanted);
+    did::three(
+        next,
+        parity::BROADCAST_WRITE_ANSWERED,
+        command,
+        parity::REPEATED_START,
+    )
+}
+
+// A command about joining, and back to idle: 504, the command, 16, 514.
+fn about_joining(m: Machine, command: u16) -> Did
+    ensures { λ r. ⌜ r ≡ laid (aboutJoining m command) ⌝ }
+{
+    let f = m.facts;
+    let rows = m.rows;
+    let next = moments::idle(f, rows);
+    did::four(
+        next,
+        parity::BROADCAST_WRITE_ANSWERED,
+        command,
+        parity::JOINING,
+        parity::STOP,
+    )
+}
 
 // After 7Eh/W has been answered, by command:
 //     0 assign            504 14 513      round (or 514, idle, by the round rule)
@@ -143,37 +183,14 @@ fn commanded(m: Machine) -> Did
             let next = moments::idle(f, moments::no_rows());
             did::three(next, answered, parity::RESET_ALL, parity::STOP)
         }
-        2 => {
-            let next = moments::direct(f, rows, 2, m.asked, m.wanted);
-            did::three(
-                next,
-                answered,
-                parity::SET_FROM_STATIC,
-                parity::REPEATED_START,
-            )
-        }
-        3 => {
-            let next = moments::direct(f, rows, 3, m.asked, m.wanted);
-            did::three(next, answered, parity::MOVE, parity::REPEATED_START)
-        }
-        4 => {
-            let next = moments::idle(f, rows);
-            did::four(
-                next,
-                answered,
-                parity::SILENCE,
-                parity::JOINING,
-                parity::STOP,
-            )
-        }
-        _ => {
-            let next = moments::idle(f, rows);
-            did::four(next, answered, parity::ALLOW, parity::JOINING, parity::STOP)
-        }
+        2 => on_to_direct(m, parity::SET_FROM_STATIC),
+        3 => on_to_direct(m, parity::MOVE),
+        4 => about_joining(m, parity::SILENCE),
+        _ => about_joining(m, parity::ALLOW),
     }
 }
 
-// No answer to 7Eh/W: 505 514, idle.
+// 7Eh/W answered: by command. No answer: 505 514, idle, nothing changed.
 pub fn opened_answer(m: Machine, heard: bool) -> Did
     ensures { λ r. ⌜ r ≡ laid (openedAnswer m heard) ⌝ }
 {
@@ -299,7 +316,7 @@ fn directed(m: Machine) -> Machine
 {
     let f = m.facts;
     let rows = m.rows;
-    if m.choice == 2 {
+    if m.choice == SET_FROM_STATIC {
         let next = ticketed(f);
         let new = Row {
             address: m.wanted,

@@ -29,7 +29,7 @@ hasTicket t r = inUse r && eqb (r .ticket) t
 abbrev pub hasIdentity : ℕ → Row → Bool
 hasIdentity id r = inUse r && not (r .unknown) && eqb (r .identity) id
 
--- it was set from the static address s, other than 0
+-- its static address is s; 0 says that it was set from none
 abbrev pub hasStatic : ℕ → Row → Bool
 hasStatic s r = inUse r && eqb (r .«from_static») s
 
@@ -39,7 +39,7 @@ hasStatic s r = inUse r && eqb (r .«from_static») s
 abbrev pub used : List Row → ℕ
 used rows = count inUse rows
 
--- whether one has the dynamic address, the ticket, the known identity, the static address
+-- whether one has the dynamic address, the ticket, the known identity, the static address (0: one that was set from none)
 abbrev pub holdsAddress : ℕ → List Row → Bool
 holdsAddress a rows = any (hasAddress a) rows
 

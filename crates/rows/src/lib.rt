@@ -14,6 +14,15 @@ pub struct Row {
     pub from_static: u8,
 }
 
+// An unused place.
+pub const NO_ROW: Row = Row {
+    address: 0,
+    ticket: 0,
+    unknown: false,
+    identity: 0,
+    from_static: 0,
+};
+
 fn in_use(r: Row) -> bool
     ensures { λ o. ⌜ o ≡ inUse r ⌝ }
 {
@@ -61,7 +70,7 @@ pub fn used_rows(rows: [Row; 32]) -> usize
     n
 }
 
-// Whether a row was set from this static address.
+// Whether a row was set from this static address; of 0, whether one was set from none.
 pub fn holds_static(rows: [Row; 32], address: u8) -> bool
     ensures { λ r. ⌜ r ≡ holdsStatic address rows ⌝ }
 {

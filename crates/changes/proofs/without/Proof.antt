@@ -45,15 +45,12 @@ loop-less c = omega arith
 loop-again : tie.Need-loop-again Inv-loop μ-loop
 loop-again c = close-turn (c .before .before .loop .inv) (omega arith) noRow
 
-no-row-requires : tie.Need-no-row-requires Inv-loop μ-loop
-no-row-requires c κs = tt
-
 array-set-from-out-2 : tie.Need-array-set-from-out-2 Inv-loop μ-loop
 array-set-from-out-2 c = omega arith
 
 returns-2 : tie.Need-returns-2 Inv-loop μ-loop
 unfolding Changes·without
-returns-2 c = rw (c .no-row .ensures) (close-ended (c .before .before .loop .inv) 31 refl (omega arith))
+returns-2 c = close-ended (c .before .loop .inv) 31 refl (omega arith)
 
 pub without-spec : {M : Type 1} → statement M
 without-spec =
@@ -71,6 +68,5 @@ without-spec =
     add-i
     loop-less
     loop-again
-    no-row-requires
     array-set-from-out-2
     returns-2)

@@ -47,6 +47,9 @@ offers-right-requires c κs = search needs
 enum-told-6 : tie.Need-enum-told-6
 enum-told-6 c = search needs
 
+goes-direct-requires : tie.Need-goes-direct-requires
+goes-direct-requires c κs = search needs
+
 asks-right-requires-2 : tie.Need-asks-right-requires-2
 asks-right-requires-2 c κs = search needs
 
@@ -86,6 +89,7 @@ moment-right-spec =
     enum-told-5
     offers-right-requires
     enum-told-6
+    goes-direct-requires
     asks-right-requires-2
     returns
     returns-2

@@ -1,4 +1,7 @@
 -- `machine::steps::commanded` meets its contract: one way for each choice.
+use Prim.Native.Nat.{ℕ}
+use mathlib.Core.Path.{ap}
+use lib.Dec.{eqb}
 use borrow.Author.Tests.{ne-eqb}
 use lib.Count.{onesIn}
 use Rattle.parity.specs.Parity.{oddBit, parity}
@@ -29,33 +32,28 @@ idle-requires c κs = search needs
 three-requires-2 : tie.Need-three-requires-2
 three-requires-2 c κs = search needs
 
-direct-requires : tie.Need-direct-requires
-direct-requires c κs = search needs
+on-to-direct-requires : tie.Need-on-to-direct-requires
+on-to-direct-requires c κs = search needs
 
-three-requires-3 : tie.Need-three-requires-3
-three-requires-3 c κs = search needs
+on-to-direct-requires-2 : tie.Need-on-to-direct-requires-2
+on-to-direct-requires-2 c κs = search needs
 
-direct-requires-2 : tie.Need-direct-requires-2
-direct-requires-2 c κs = search needs
+about-joining-requires : tie.Need-about-joining-requires
+about-joining-requires c κs = search needs
 
-three-requires-4 : tie.Need-three-requires-4
-three-requires-4 c κs = search needs
-
-idle-requires-2 : tie.Need-idle-requires-2
-idle-requires-2 c κs = search needs
-
-four-requires : tie.Need-four-requires
-four-requires c κs = search needs
-
-idle-requires-3 : tie.Need-idle-requires-3
-idle-requires-3 c κs = search needs
-
-four-requires-2 : tie.Need-four-requires-2
-four-requires-2 c κs = search needs
+about-joining-requires-2 : tie.Need-about-joining-requires-2
+about-joining-requires-2 c κs = search needs
 
 returns : tie.Need-returns
 unfolding Steps·commanded roundRule oddBit parity onesIn
-returns c = rw (c .before .before .before .before .match .keys1, c .three .ensures, c .before .onward-cell .ensures, c .before .before .onward-machine .ensures, c .before .before .before .can-assign .ensures)
+returns c =
+    rw (
+      c .before .before .before .before .match .keys1,
+      c .three .ensures,
+      c .before .onward-cell .ensures,
+      c .before .before .onward-machine .ensures,
+      c .before .before .before .can-assign .ensures,
+    )
 
 returns-2 : tie.Need-returns-2
 unfolding Steps·commanded oddBit parity onesIn
@@ -63,27 +61,39 @@ returns-2 c = rw (c .before .before .before .match .keys2, c .three2 .ensures, c
 
 returns-3 : tie.Need-returns-3
 unfolding Steps·commanded oddBit parity onesIn
-returns-3 c = rw (c .before .before .match .keys3, c .three3 .ensures, c .before .direct .ensures)
+returns-3 c =
+    rw (
+      ap (λ (choice : ℕ). eqb choice 0) (c .before .match .keys3),
+      ap (λ (choice : ℕ). eqb choice 1) (c .before .match .keys3),
+      ap (λ (choice : ℕ). eqb choice 2) (c .before .match .keys3),
+      c .on-to-direct .ensures,
+    )
 
 returns-4 : tie.Need-returns-4
 unfolding Steps·commanded oddBit parity onesIn
-returns-4 c = rw (c .before .before .match .keys4, c .three4 .ensures, c .before .direct2 .ensures)
+returns-4 c =
+    rw (
+      ap (λ (choice : ℕ). eqb choice 0) (c .before .match .keys4),
+      ap (λ (choice : ℕ). eqb choice 1) (c .before .match .keys4),
+      ap (λ (choice : ℕ). eqb choice 2) (c .before .match .keys4),
+      ap (λ (choice : ℕ). eqb choice 3) (c .before .match .keys4),
+      c .on-to-direct2 .ensures,
+    )
 
 returns-5 : tie.Need-returns-5
 unfolding Steps·commanded oddBit parity onesIn
-returns-5 c = rw (c .before .before .match .keys5, c .four .ensures, c .before .idle2 .ensures)
+returns-5 c = rw (c .before .match .keys5, c .about-joining .ensures)
 
 returns-6 : tie.Need-returns-6
 unfolding Steps·commanded oddBit parity onesIn
 returns-6 c =
     rw (
-      ne-eqb _ _ (c .before .before .match .rest .0 .0 .0 .0 .1),
-      ne-eqb _ _ (c .before .before .match .rest .0 .0 .0 .1),
-      ne-eqb _ _ (c .before .before .match .rest .0 .0 .1),
-      ne-eqb _ _ (c .before .before .match .rest .0 .1),
-      ne-eqb _ _ (c .before .before .match .rest .1),
-      c .four2 .ensures,
-      c .before .idle3 .ensures,
+      ne-eqb _ _ (c .before .match .rest .0 .0 .0 .0 .1),
+      ne-eqb _ _ (c .before .match .rest .0 .0 .0 .1),
+      ne-eqb _ _ (c .before .match .rest .0 .0 .1),
+      ne-eqb _ _ (c .before .match .rest .0 .1),
+      ne-eqb _ _ (c .before .match .rest .1),
+      c .about-joining2 .ensures,
     )
 
 pub commanded-spec : {M : Type 1} → statement M
@@ -97,14 +107,10 @@ commanded-spec =
     no-rows-requires
     idle-requires
     three-requires-2
-    direct-requires
-    three-requires-3
-    direct-requires-2
-    three-requires-4
-    idle-requires-2
-    four-requires
-    idle-requires-3
-    four-requires-2
+    on-to-direct-requires
+    on-to-direct-requires-2
+    about-joining-requires
+    about-joining-requires-2
     returns
     returns-2
     returns-3
