@@ -1,7 +1,7 @@
 // Address slots.
 use crate::sweep::Test;
 use crate::sweep::passing;
-use crate::tally::Tally;
+use tally::Tally;
 
 // 000 table 8: how many addresses are free for use, by range.
 pub fn free_for_use() {

@@ -1,7 +1,7 @@
 // Bytes, ninth bits and cells.
 use crate::sweep::Test;
 use crate::sweep::passing;
-use crate::tally::Tally;
+use tally::Tally;
 
 fn cell(t: Tally, byte: u8, should: u16) -> Tally {
     t.number(byte as u32, parity::data_cell(byte) as u32, should as u32)

@@ -6,7 +6,6 @@ mod addresses;
 mod bytes;
 mod records;
 mod sweep;
-mod tally;
 
 fn main() {
     bytes::ninth_bits();

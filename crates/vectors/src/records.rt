@@ -1,5 +1,4 @@
 // Whole records of 01, made of the named cells, and their clocks.
-use crate::tally::Tally;
 use parity::ALLOW;
 use parity::ASSIGN;
 use parity::BROADCAST_READ_ANSWERED;
@@ -16,6 +15,7 @@ use parity::SET_FROM_STATIC;
 use parity::SILENCE;
 use parity::START;
 use parity::STOP;
+use tally::Tally;
 
 // How many cells of a record are what they should be; none of one over 1,024 cells.
 fn agreeing(cells: &[u16], should: &[u16]) -> u32 {

@@ -1,0 +1,91 @@
+// What stands in a machine, as numbers.
+use crate::numbers::Numbers;
+use machine::Machine;
+use machine::Moment;
+use rows::Row;
+
+// The moment's number, and what is remembered: choice, address asked, address wanted, identity, address offered, refusals in succession.
+pub fn moment(m: Machine) -> Numbers {
+    let moment = m.moment;
+    let first = Numbers::new().with(number_of(moment));
+    with_offer(with_choice(first, m), m)
+}
+
+// The number of a moment.
+fn number_of(moment: Moment) -> u64 {
+    match moment {
+        Moment::Idle => 0,
+        Moment::Opened => 1,
+        Moment::Round => 2,
+        Moment::Listening => 3,
+        Moment::Offered => 4,
+        Moment::Direct => 5,
+    }
+}
+
+// What was begun goes behind the numbers.
+fn with_choice(numbers: Numbers, m: Machine) -> Numbers {
+    numbers
+        .with(m.choice as u64)
+        .with(m.asked as u64)
+        .with(m.wanted as u64)
+}
+
+// What is offered goes behind the numbers.
+fn with_offer(numbers: Numbers, m: Machine) -> Numbers {
+    numbers
+        .with(m.identity)
+        .with(m.offered as u64)
+        .with(m.refusals as u64)
+}
+
+// Flags and last ticket.
+pub fn facts(m: Machine) -> Numbers {
+    let f = m.facts;
+    Numbers::new().with(f.flags as u64).with(f.last as u64)
+}
+
+// The sixteen bytes of the legacy set.
+pub fn devices(m: Machine) -> Numbers {
+    let f = m.facts;
+    let legacy = f.legacy;
+    let mut out = Numbers::new();
+    let mut i: usize = 0;
+    while i < 16 {
+        let more = out.with(wide(legacy[i]));
+        out = more;
+        i += 1;
+    }
+    out
+}
+
+// A byte as a number.
+fn wide(byte: u8) -> u64 {
+    byte as u64
+}
+
+// What stands at a place of the table; nothing behind its 32 places.
+pub fn place(m: Machine, place: usize) -> Numbers {
+    let rows = m.rows;
+    if place < 32 {
+        let here = rows[place];
+        row(here)
+    } else {
+        Numbers::new()
+    }
+}
+
+// A row: address, ticket, mark "identity unknown", identity, static address.
+fn row(r: Row) -> Numbers {
+    Numbers::new()
+        .with(r.address as u64)
+        .with(r.ticket as u64)
+        .with(flag(r.unknown))
+        .with(r.identity)
+        .with(r.from_static as u64)
+}
+
+// A mark as a number.
+fn flag(set: bool) -> u64 {
+    if set { 1 } else { 0 }
+}
