@@ -4,6 +4,7 @@
 // In the groups' names 000 is MIPI I3C Basic 1.1.1, and 01 the rack's exact rules.
 mod addresses;
 mod bytes;
+mod calls;
 mod records;
 mod sweep;
 
@@ -22,4 +23,5 @@ fn main() {
     addresses::opens();
     addresses::refusals();
     addresses::legacy();
+    calls::numbers();
 }

@@ -51,7 +51,7 @@ fn clocks(cells: &[u16]) -> u32 {
 }
 
 // One record of n cells against the cells and clocks that it should have.
-fn record(t: Tally, cells: &[u16], should: &[u16], n: u32, clocked: u32) -> Tally {
+pub fn record(t: Tally, cells: &[u16], should: &[u16], n: u32, clocked: u32) -> Tally {
     t.number(n, agreeing(cells, should), n)
         .number(n, clocks(cells), clocked)
 }
