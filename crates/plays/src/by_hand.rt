@@ -1,8 +1,8 @@
 // A machine made by hand: one field is given another value, which no call would give it.
-use crate::numbers::Numbers;
-use crate::numbers::byte;
-use crate::numbers::place;
-use crate::numbers::ticket;
+use lines::numbers::Numbers;
+use lines::numbers::byte;
+use lines::numbers::place;
+use lines::numbers::ticket;
 use machine::Machine;
 use machine::Moment;
 use rows::Row;

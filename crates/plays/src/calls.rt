@@ -4,12 +4,12 @@ use crate::came;
 use crate::came::BLANK;
 use crate::came::Came;
 use crate::looks;
-use crate::numbers::Numbers;
-use crate::numbers::byte;
-use crate::numbers::bytes_from;
-use crate::numbers::count_from;
-use crate::numbers::place;
-use crate::numbers::ticket;
+use lines::numbers::Numbers;
+use lines::numbers::byte;
+use lines::numbers::bytes_from;
+use lines::numbers::count_from;
+use lines::numbers::place;
+use lines::numbers::ticket;
 use machine::Machine;
 use machine::Stepped;
 

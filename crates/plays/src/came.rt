@@ -1,7 +1,7 @@
 // What a line of the script came to.
-use crate::numbers::Numbers;
 use crate::same;
 use libc::STDOUT_FILENO;
+use lines::numbers::Numbers;
 use machine::Machine;
 use machine::Stepped;
 

@@ -1,5 +1,5 @@
 // What stands in a machine, as numbers.
-use crate::numbers::Numbers;
+use lines::numbers::Numbers;
 use machine::Machine;
 use machine::Moment;
 use rows::Row;

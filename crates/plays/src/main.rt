@@ -6,11 +6,8 @@ mod by_hand;
 mod calls;
 mod came;
 mod looks;
-mod numbers;
 mod same;
 mod script;
-mod shapes;
-mod words;
 
 fn main() {
     let mut text = io::large_buffer();

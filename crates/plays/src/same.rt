@@ -1,6 +1,6 @@
 // Whether two lists of numbers, or two machines, are the same.
 use crate::looks;
-use crate::numbers::Numbers;
+use lines::numbers::Numbers;
 use machine::Machine;
 
 // Whether two lists have the same numbers, and as many.

@@ -33,5 +33,7 @@ pub fn numbers() {
     t = t.number(1, assign_refusal(1, [0; 16], 0), 0);
     t = t.number(1, assign_refusal(1, every_device(), 0), 6);
     t = t.number(1, assign_refusal(1, [0; 16], 4294967295), 7);
-    nobody(t).report(b"refusals of an assign, and a bus with no boards, by the machine's calls (01)");
+    nobody(t).report(
+        b"refusals of an assign, and a bus with no boards, by the machine's calls (01)",
+    );
 }

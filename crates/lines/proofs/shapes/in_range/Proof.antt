@@ -1,8 +1,8 @@
--- `plays::shapes::in_range` is safe, and ends after 24 places.
+-- `lines::shapes::in_range` is safe, and ends after 24 places.
 use Prim.Native.Nat.{_-_, _≤_}
 use borrow.Author.Needs.{needs}
-use Rattle.plays.proofs.shapes.in_range.Statement.{statement}
-use Rattle.plays.proofs.shapes.in_range.Tie as tie
+use Rattle.lines.proofs.shapes.in_range.Statement.{statement}
+use Rattle.lines.proofs.shapes.in_range.Tie as tie
 
 abbrev Inv-loop : tie.InvT-loop
 Inv-loop line given i₀ i = i ≤ 24

@@ -1,11 +1,11 @@
--- `plays::words::read` is safe, and ends at the end of the text, and every word lies within it.
+-- `lines::words::read` is safe, and ends at the end of the text, and every word lies within it.
 use Prim.Native.Nat.{_-_, _≤_}
 use lib.ListN.{length}
 use mathlib.Core.Logic.{⊎-elim}
 use native.Mathlib.Omega.{arith}
 use borrow.Author.Needs.{needs}
-use Rattle.plays.proofs.words.read.Statement.{statement}
-use Rattle.plays.proofs.words.read.Tie as tie
+use Rattle.lines.proofs.words.read.Statement.{statement}
+use Rattle.lines.proofs.words.read.Tie as tie
 
 abbrev Inv-loop : tie.InvT-loop
 Inv-loop text line₀ from₀ i₀ line from i = (from ≤ i) × (i ≤ length text)

@@ -1,8 +1,8 @@
--- `plays::numbers::bytes_from` is safe, and ends at the 24th place.
+-- `lines::numbers::bytes_from` is safe, and ends at the 24th place.
 use Prim.Native.Nat.{_-_, _≤_}
 use borrow.Author.Needs.{needs}
-use Rattle.plays.proofs.numbers.bytes_from.Statement.{statement}
-use Rattle.plays.proofs.numbers.bytes_from.Tie as tie
+use Rattle.lines.proofs.numbers.bytes_from.Statement.{statement}
+use Rattle.lines.proofs.numbers.bytes_from.Tie as tie
 
 abbrev Inv-loop : tie.InvT-loop
 Inv-loop numbers first out₀ i₀ out i = first ≤ i

@@ -1,9 +1,9 @@
--- `plays::numbers::digits` is safe, and ends at the end of the word.
+-- `lines::numbers::digits` is safe, and ends at the end of the word.
 use Prim.Native.Nat.{_-_, _≤_}
 use lib.ListN.{length}
 use borrow.Author.Needs.{needs}
-use Rattle.plays.proofs.numbers.digits.Statement.{statement}
-use Rattle.plays.proofs.numbers.digits.Tie as tie
+use Rattle.lines.proofs.numbers.digits.Statement.{statement}
+use Rattle.lines.proofs.numbers.digits.Tie as tie
 
 abbrev Inv-loop : tie.InvT-loop
 Inv-loop word hexadecimal read₀ i₀ read i = i ≤ length word
