@@ -1,5 +1,4 @@
 // Numbers as the script writes them, decimal, or hexadecimal with an h behind: 9, 09h.
-ghost use Prim.Native.Nat.{_≤_};
 
 // Up to 24 numbers, in the first `count` places. No line of the script has as many.
 pub struct Numbers {
@@ -138,19 +137,4 @@ pub fn bytes_from(numbers: Numbers, first: usize) -> [u8; 24] {
         i += 1;
     }
     out
-}
-
-// How many numbers there are from a place on.
-pub fn count_from(numbers: Numbers, first: usize) -> usize
-    ensures { λ r. ⌜ r ≤ 24 ⌝ }
-{
-    let count = numbers.count;
-    if count < first {
-        return 0;
-    }
-    if 24 < count - first {
-        24
-    } else {
-        count - first
-    }
 }

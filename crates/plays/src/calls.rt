@@ -7,7 +7,6 @@ use crate::looks;
 use lines::numbers::Numbers;
 use lines::numbers::byte;
 use lines::numbers::bytes_from;
-use lines::numbers::count_from;
 use lines::numbers::place;
 use lines::numbers::ticket;
 use machine::Machine;
@@ -41,6 +40,21 @@ fn room(lent: usize) -> usize
     ensures { λ r. ⌜ r ≤ 12 ⌝ }
 {
     if lent < 12 { lent } else { 12 }
+}
+
+// How many numbers there are from a place on.
+fn count_from(numbers: Numbers, first: usize) -> usize
+    ensures { λ r. ⌜ r ≤ 24 ⌝ }
+{
+    let count = numbers.count;
+    if count < first {
+        return 0;
+    }
+    if 24 < count - first {
+        24
+    } else {
+        count - first
+    }
 }
 
 // `start FLAGS LAST LEGACY..`. A refused one hands back a machine of its own, so that it is compared with none.
