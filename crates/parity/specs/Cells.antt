@@ -24,9 +24,16 @@ answerCell byte answered = cell byte (cond answered 0 1)
 abbrev pub identityCell : ℕ → ℕ
 identityCell byte = 1024 + byte
 
+-- which cells are a byte and its ninth bit, and which an identity byte
+abbrev pub isByte : ℕ → Bool
+isByte c = ltb c 512
+
+unfoldable pub isIdentity : ℕ → Bool
+isIdentity c = within 1024 1279 c
+
 -- nine clocks for a byte and its ninth bit, eight for an identity byte, none for START, repeated START, STOP and numbers that are no cell
 abbrev pub clocks : ℕ → ℕ
-clocks c = cond (ltb c 512) 9 (cond (within 1024 1279 c) 8 0)
+clocks c = cond (isByte c) 9 (cond (isIdentity c) 8 0)
 
 -- ---- an address in a byte
 
