@@ -7,7 +7,7 @@ use native.Mathlib.Omega.{arith}
 use native.Mathlib.Numerals.{add-one}
 use lib.ListN.{length, take, drop, set, getD, length-append, length-drop, length-take, drop-of-length-le}
 use borrow.Rule.Slice.PartMut.{putMid, midOf}
-use lib.Seq.{take-all, take-at, drop-at, drop-cons, drop-drop, set-append-seam, sets, sets-eq}
+use lib.Seq.{take-all, take-at, drop-at, drop-cons, drop-drop, set-append-seam, set-at, sets, sets-eq}
 use Rattle.lists.specs.Buffers.{lay, layAt}
 
 module _ {A : Type 0} where
@@ -29,6 +29,10 @@ module _ {A : Type 0} where
   pub lay-sets : (out buffer : List A) → length out ≤ length buffer → sets buffer 0 out ≡ lay out buffer
   lay-sets out buffer h = let room : 0 + length out ≤ length buffer = rw zero-add h in sets-eq out buffer 0 room ∙ rw zero-add
 
+  -- and from the place `at` on
+  pub layAt-sets : (at : ℕ) (out buffer : List A) → at + length out ≤ length buffer → sets buffer at out ≡ layAt at out buffer
+  layAt-sets at out buffer h = sets-eq out buffer at h ∙ rw (append-assoc, drop-drop)
+
   -- a part `buffer[at..]` that a callee was lent: what it was handed, and what the whole is after it
   pub tail-mid : (at : ℕ) (buffer : List A) → midOf at (length buffer - at) buffer ≡ drop at buffer
   tail-mid at buffer = take-all (length buffer - at) (drop at buffer) (rw (length-drop at buffer) (le-refl (length buffer - at)))
@@ -49,6 +53,26 @@ module _ {A : Type 0} where
         drop-at (take at buffer ++ x) (drop (length x) (drop at buffer)) (at + length x) p,
         drop-drop (length y) (length x) (drop at buffer),
         length-append x y,
+      )
+      (simp append-assoc)
+
+  -- the same, behind n from the first place on
+  pub lay-on : (n : ℕ) (x y buffer : List A) → length x ≡ n → n ≤ length buffer → layAt n y (lay x buffer) ≡ lay (x ++ y) buffer
+  lay-on n x y buffer l h = let p : 0 + length x ≡ n = omega arith in rw p at (layAt-on 0 x y buffer (rw p h))
+
+  -- one element more, behind n from the place `at` on
+  pub layAt-one : (at n : ℕ) (out buffer : List A) (v : A) → length out ≡ n → at + n < length buffer
+      → set (layAt at out buffer) (at + n) v ≡ layAt at (out ++ (v ∷ [])) buffer
+  layAt-one at n out buffer v l h =
+      let front : length (take at buffer ++ out) ≡ at + n = simp (length-append, length-take) (omega arith) in
+      rw (
+        ← append-assoc (take at buffer) out,
+        l,
+        drop-cons (drop at buffer) n v (rw length-drop (omega arith)),
+        set-at (take at buffer ++ out) _ _ v (at + n) front,
+        length-append out (v ∷ []),
+        l,
+        add-one,
       )
       (simp append-assoc)
 

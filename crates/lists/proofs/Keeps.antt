@@ -6,7 +6,7 @@ use mathlib.Core.Bool.{Bool, true, false, cond, not, _&&_, _||_}
 use mathlib.Core.List.{List, [], _∷_, _++_}
 use native.Mathlib.Omega.{arith}
 use lib.Dec.{ltb, leb·suc-suc}
-use lib.ListN.{length, getD, take, set}
+use lib.ListN.{length, getD, take, drop, set}
 use Rattle.lists.specs.Lists.{any, all, pairwise, find, insertBy, removeAt}
 use borrow.Author.Tests.{ltb-true, lt-ltb, not-true}
 use Rattle.lists.proofs.Bools.{both, and, or-right}
@@ -15,6 +15,11 @@ module _ {A : Type 0} where
   pub all-mono : (p q : A → Bool) → ((y : A) → p y ≡ true → q y ≡ true) → (l : List A) → all p l ≡ true → all q l ≡ true
   all-mono p q f [] h = refl
   all-mono p q f (y ∷ ys) h = and (f y (both (p y) (all p ys) h .0)) (all-mono p q f ys (both (p y) (all p ys) h .1))
+
+  pub all-drop : (p : A → Bool) (n : ℕ) (l : List A) → all p l ≡ true → all p (drop n l) ≡ true
+  all-drop p zero l h = h
+  all-drop p (suc n) [] h = refl
+  all-drop p (suc n) (y ∷ ys) h = all-drop p n ys (both (p y) (all p ys) h .1)
 
   pub all-take : (p : A → Bool) (n : ℕ) (l : List A) → all p l ≡ true → all p (take n l) ≡ true
   all-take p zero l h = refl

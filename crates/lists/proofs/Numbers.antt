@@ -2,16 +2,29 @@
 use Prim.Native.Nat.{ℕ, zero, suc, _+_, _-_, _<_, _≤_}
 use mathlib.Core.Path.{_≡_, refl, ap, _∙_, sym}
 use mathlib.Core.Bool.{Bool, true, false, cond, not, _||_, and-false, true≢false}
-use mathlib.Core.List.{List, [], _∷_}
+use mathlib.Core.List.{List, [], _∷_, _++_}
+use native.Mathlib.Nat.{add-zero, add-suc, suc-add}
 use native.Mathlib.Omega.{arith}
 use native.Mathlib.Numerals.{add-one}
 use lib.Dec.{eqb, ltb, leb}
+use lib.ListN.{length}
 use borrow.Author.Tests.{ltb-true, lt-leb, ne-eqb}
 use Rattle.lists.specs.Lists.{any, all}
 use Rattle.lists.specs.Numbers.{numbers, first, within, oneOf}
 use Rattle.lists.proofs.Bools.{both, and}
 
 -- ---- every number of a row
+
+pub numbers-length : (a k : ℕ) → length (numbers a k) ≡ k
+unfolding numbers
+numbers-length a zero = refl
+numbers-length a (suc k) = ap suc (numbers-length (suc a) k)
+
+-- one number more
+pub numbers-more : (a k : ℕ) → numbers a (suc k) ≡ numbers a k ++ ((a + k) ∷ [])
+unfolding numbers
+numbers-more a zero = rw add-zero
+numbers-more a (suc k) = rw (numbers-more (suc a) k, add-suc, suc-add)
 
 pub all-numbers : (p : ℕ → Bool) (a k : ℕ) → ((n : ℕ) → a ≤ n → n < a + k → p n ≡ true) → all p (numbers a k) ≡ true
 unfolding numbers

@@ -1,0 +1,4 @@
+pub mod Forward
+pub mod Inverse
+pub mod Trips
+pub mod Place
