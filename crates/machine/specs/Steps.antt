@@ -50,11 +50,15 @@ unfoldable pub beginning : Machine → ℕ → ℕ → ℕ → ℕ → Step
 beginning m choice static new ticket =
     did (opened (m .facts) (m .rows) choice (addressAsked (m .rows) choice static ticket) (addressWanted choice new)) (startCell ∷ [])
 
--- choice 0: 512, 9, 514; choice 1: 512, 8, 513, then opened for silence (Begin's choice 4); choice 2 the same for assign (Begin's choice 0)
+-- the choice of Begin that a joining is opened for: silence, 4, for Join's choice 1, assign, 0, for 2
+abbrev pub joinsFor : ℕ → ℕ
+joinsFor choice = cond (eqb choice 1) 4 0
+
+-- choice 0: 512, 9, 514; choice 1: 512, 8, 513, then opened for silence; choice 2 the same for assign
 unfoldable pub joining : Machine → ℕ → Step
 joining m choice =
     cond (eqb choice 0) (did (idle (m .facts) (m .rows)) (startCell ∷ hotJoin false ∷ stopCell ∷ []))
-    (did (opened (m .facts) (m .rows) (cond (eqb choice 1) 4 0) 0 0) (startCell ∷ hotJoin true ∷ repeatedStartCell ∷ []))
+    (did (opened (m .facts) (m .rows) (joinsFor choice) 0 0) (startCell ∷ hotJoin true ∷ repeatedStartCell ∷ []))
 
 -- ---- the round rule
 

@@ -438,7 +438,7 @@ module _ (r : Reading) (bytes : List ℕ) (small : areBytes bytes ≡ true) wher
   by-command Silence e f h = bare-kind Silence e f h
   by-command Allow e f h = bare-kind Allow e f h
 
-  -- THE RECORD OF A READING READS AS THIS READING, with these bytes
+  -- the record of a reading reads as this reading, with these bytes
   pub layout-reads : hasLayout r bytes ≡ true → ReadsAs r bytes (cellsOf r bytes)
   unfolding hasLayout
   layout-reads h =

@@ -215,10 +215,11 @@ first-bad cells place e =
     let s = stops cells place e in
     let (rest, r, f) = s .before in
     record {
+      none = λ w. never (sym e ∙ laid-accepted w);
       within = s .within;
       rest = rest;
       before = accepted-laid r (take place cells ++ rest) f;
-      stuck = λ h more w. let (r′, g) = laid-accepted w in s .stuck h more r′ g;
+      stuck = λ h more w. s .stuck h more (w .reading) (laid-accepted w);
     }
 
 -- ---- there is one such place

@@ -1,9 +1,10 @@
 -- What reader and writer are to each other: the reader accepts exactly the layouts, what was written is read back, what was read is written again,
 -- the writer writes exactly what can be read, and a reading with its bytes has one record.
 use Prim.Native.Nat.{ℕ, _+_, _*_, _≤_}
-use mathlib.Core.Path.{_≡_, refl, sym, _∙_}
+use mathlib.Core.Path.{_≡_, refl, sym, ap, _∙_}
 use mathlib.Core.Bool.{Bool, true, false, cond}
 use mathlib.Core.List.{List, [], _∷_}
+use mathlib.Core.Logic.{_⊎_, inl, inr, ⊎-elim}
 use native.Mathlib.Omega.{arith}
 use lib.Dec.{leb, ltb}
 use lib.ListN.{length, take, drop}
@@ -15,35 +16,38 @@ use Rattle.readings.specs.declared.Reading.{Reading}
 use Rattle.readings.specs.Layouts.{cellsOf, hasLayout}
 use Rattle.reader.specs.declared.Answer.{Answer}
 use Rattle.reader.specs.Points.{Point, Next, nowhere, to, over, start, next}
-use Rattle.reader.specs.Read.{says, refused, stopped, lead, from, offersOf, answerTo, offersTo}
+use Rattle.reader.specs.Read.{says, refused, breaks, stopped, lead, from, offersOf, answerTo, offersTo}
 use Rattle.writer.specs.Write.{writable, writeRefusal, toWrite}
 use Rattle.records.specs.Records.{areBytes, Laid, ReadsAs}
 use Rattle.records.proofs.Inverse.{read-layout}
 use Rattle.records.proofs.Forward.{cells-prefix, layout-prefix, offers-length, layout-reads, layout-read}
 
--- ---- where the reader refuses nothing
+-- ---- what the reader answers
 
--- an answer that refuses nothing says a reading
-abbrev SaysUnrefused : Answer → Type 0
-SaysUnrefused a = a .refusal ≡ 0 → a ≡ says (a .reading)
+-- a reading, or a place where the cells break
+abbrev pub Either : Answer → Type 0
+Either a = (a ≡ says (a .reading)) ⊎ (a ≡ breaks (a .place))
 
-stopped-says : (r : Reading) (cells : List ℕ) (at : ℕ) → SaysUnrefused (stopped r cells at)
+stopped-either : (r : Reading) (cells : List ℕ) (at : ℕ) → Either (stopped r cells at)
 unfolding stopped
-stopped-says r [] at h = refl
-stopped-says r (x ∷ cells) at h = absurd (omega arith)
+stopped-either r [] at = inl refl
+stopped-either r (x ∷ cells) at = inr refl
 
-lead-says : (n : Next) (at : ℕ) (on : Point → Answer) (end : Reading → Answer)
-    → ((p : Point) → SaysUnrefused (on p)) → ((r : Reading) → SaysUnrefused (end r)) → SaysUnrefused (lead n at on end)
-lead-says nowhere at on end f g h = absurd (omega arith)
-lead-says (to p) at on end f g h = f p h
-lead-says (over r) at on end f g h = g r h
+lead-either : (n : Next) (at : ℕ) (on : Point → Answer) (end : Reading → Answer)
+    → ((p : Point) → Either (on p)) → ((r : Reading) → Either (end r)) → Either (lead n at on end)
+lead-either nowhere at on end f g = inr refl
+lead-either (to p) at on end f g = f p
+lead-either (over r) at on end f g = g r
 
-from-says : (cells : List ℕ) (p : Point) (at : ℕ) → SaysUnrefused (from p cells at)
+pub from-either : (cells : List ℕ) (p : Point) (at : ℕ) → Either (from p cells at)
 unfolding from
-from-says [] p at h = absurd (omega arith)
-from-says (x ∷ cells) p at h =
-    lead-says (next p x) at (λ p′. from p′ cells (at + 1)) (λ r. stopped r cells (at + 1))
-    (λ p′. from-says cells p′ (at + 1)) (λ r. stopped-says r cells (at + 1)) h
+from-either [] p at = inr refl
+from-either (x ∷ cells) p at =
+    lead-either (next p x) at (λ p′. from p′ cells (at + 1)) (λ r. stopped r cells (at + 1))
+    (λ p′. from-either cells p′ (at + 1)) (λ r. stopped-either r cells (at + 1))
+
+from-says : (cells : List ℕ) → from start cells 0 .refusal ≡ 0 → from start cells 0 ≡ says (from start cells 0 .reading)
+from-says cells h = ⊎-elim (λ e. e) (λ e. absurd (omega (arith, h, ap (λ (a : Answer). a .refusal) e))) (from-either cells start 0)
 
 -- neither 13 nor 15 nor what the cells are refused with
 not-refusing : (long short : Bool) (a : Answer) → cond long (refused 13 0) (cond short (refused 15 0) a) .refusal ≡ 0
@@ -54,16 +58,16 @@ not-refusing false false a h = (refl, refl, h)
 
 module _ (cells : List ℕ) (room : ℕ) where
   -- within the limits the answer is what the cells say
-  answer-within : length cells ≤ 1024 → 10 * from start cells 0 .reading .offers ≤ room → answerTo cells room ≡ from start cells 0
+  pub answer-within : length cells ≤ 1024 → 10 * from start cells 0 .reading .offers ≤ room → answerTo cells room ≡ from start cells 0
   unfolding answerTo
   answer-within l o = rw (le-ltb 1024 (length cells) l, le-ltb room (10 * from start cells 0 .reading .offers) o)
 
   -- an answer that refuses nothing is what at most 1,024 cells say
-  answer-says : answerTo cells room .refusal ≡ 0 → (length cells ≤ 1024) × (from start cells 0 ≡ says (answerTo cells room .reading))
+  pub answer-says : answerTo cells room .refusal ≡ 0 → (length cells ≤ 1024) × (from start cells 0 ≡ says (answerTo cells room .reading))
   unfolding answerTo
   answer-says h =
       let t = not-refusing (ltb 1024 (length cells)) (ltb room (10 * from start cells 0 .reading .offers)) (from start cells 0) h in
-      rw (t .0, t .1) (ltb-false 1024 (length cells) (t .0), from-says cells start 0 (t .2))
+      rw (t .0, t .1) (ltb-false 1024 (length cells) (t .0), from-says cells (t .2))
 
 -- ---- where the writer refuses nothing
 
@@ -99,8 +103,8 @@ module _ (r : Reading) (bytes : List ℕ) where
 
 -- ---- the reader accepts exactly the layouts
 
-pub laid-accepted : {cells : List ℕ} → Laid cells → (r : Reading) × (from start cells 0 ≡ says r)
-laid-accepted l = (l .reading, rw (l .gives) (layout-read (l .reading) (l .bytes) (l .eight-bits) (l .layout)))
+pub laid-accepted : {cells : List ℕ} (l : Laid cells) → from start cells 0 ≡ says (l .reading)
+laid-accepted l = rw (l .gives) (layout-read (l .reading) (l .bytes) (l .eight-bits) (l .layout))
 
 pub accepted-laid : (r : Reading) (cells : List ℕ) → from start cells 0 ≡ says r → Laid cells
 accepted-laid r cells h =

@@ -28,9 +28,10 @@ pub record ReadsAs (r : Reading) (bytes cells : List ℕ) : Type 0 where
   pub reads : from start cells 0 ≡ says r
   pub tells : offersOf r cells ≡ take (10 * r .offers) bytes
 
--- the place of the first cell that no layout can continue, or the length: what stands before it can be continued to a record, and what ends with
--- the cell there can't
+-- the cells are no record, and this is the place of the first one that no layout can continue, or their length: what stands before it can be
+-- continued to a record, and what ends with the cell there can't
 pub record FirstBad (cells : List ℕ) (place : ℕ) : Type 0 where
+  pub none : Laid cells → ⊥
   pub within : place ≤ length cells
   pub rest : List ℕ
   pub before : Laid (take place cells ++ rest)

@@ -1,0 +1,76 @@
+-- What reader and writer answer: refusals 0 and 14, by the layouts.
+use Prim.Native.Nat.{ℕ, _*_, _≤_}
+use mathlib.Core.Path.{_≡_, refl, sym, ap, _∙_}
+use mathlib.Core.Bool.{Bool, true, false, cond, true≢false}
+use mathlib.Core.List.{List}
+use mathlib.Core.Logic.{⊎-elim}
+use native.Mathlib.Omega.{arith}
+use lib.Dec.{ltb}
+use lib.ListN.{length}
+use borrow.Author.Tests.{le-ltb}
+use Rattle.readings.specs.declared.Reading.{Reading}
+use Rattle.reader.specs.declared.Answer.{Answer}
+use Rattle.reader.specs.Points.{start}
+use Rattle.reader.specs.Read.{says, refused, breaks, from, answerTo}
+use Rattle.writer.specs.Write.{writable, writeRefusal}
+use Rattle.records.specs.Records.{areBytes, Laid, ReadsAs, FirstBad}
+use Rattle.records.proofs.Trips.{from-either, answer-within, answer-says, laid-accepted, accepted-laid, writable-reads, reads-writable}
+use Rattle.records.proofs.Place.{first-bad}
+
+-- ---- the reader
+
+-- 14 is neither 13 nor 15
+is-14 : (long short : Bool) (a : Answer) → cond long (refused 13 0) (cond short (refused 15 0) a) .refusal ≡ 14
+    → (cond long (refused 13 0) (cond short (refused 15 0) a) ≡ a) × (a .refusal ≡ 14)
+is-14 true short a h = absurd (omega arith)
+is-14 false true a h = absurd (omega arith)
+is-14 false false a h = (refl, h)
+
+module _ (cells : List ℕ) (room : ℕ) where
+  -- a record of at most 1,024 cells is read as what its layout says, if the buffer has room for its offers
+  pub accepts : (l : Laid cells) → length cells ≤ 1024 → 10 * l .reading .offers ≤ room → answerTo cells room ≡ says (l .reading)
+  accepts l short fits = let e = laid-accepted l in answer-within cells room short (rw e fits) ∙ e
+
+  -- and nothing else is
+  pub accepted : answerTo cells room .refusal ≡ 0 → Laid cells × (length cells ≤ 1024)
+  accepted h = let t = answer-says cells room h in (accepted-laid (answerTo cells room .reading) cells (t .1), t .0)
+
+  -- at most 1,024 cells that are no record are refused 14
+  pub refuses : length cells ≤ 1024 → (Laid cells → ⊥) → (place : ℕ) × (answerTo cells room ≡ breaks place)
+  refuses short none =
+      ⊎-elim (λ e. absurd (none (accepted-laid (from start cells 0 .reading) cells e)))
+      (λ e. (from start cells 0 .place, answer-within cells room short (rw e (omega arith)) ∙ e))
+      (from-either cells start 0)
+
+  -- and the place of 14 is that of the first cell that no layout can continue, or the length
+  pub refused-at : answerTo cells room .refusal ≡ 14 → FirstBad cells (answerTo cells room .place)
+  unfolding answerTo
+  refused-at h =
+      let t = is-14 (ltb 1024 (length cells)) (ltb room (10 * from start cells 0 .reading .offers)) (from start cells 0) h in
+      ⊎-elim (λ e. absurd (omega (arith, t .1, ap (λ (a : Answer). a .refusal) e)))
+      (λ e. rw (t .0) (first-bad cells (from start cells 0 .place) e))
+      (from-either cells start 0)
+
+-- ---- the writer
+
+not-writable : (few fits : Bool) → _≡_ {A = ℕ} (cond few 11 (cond fits 0 14)) 14 → fits ≡ false
+not-writable true fits h = absurd (omega arith)
+not-writable false true h = absurd (omega arith)
+not-writable false false h = refl
+
+module _ (r : Reading) (bytes : List ℕ) (room : ℕ) where
+  -- where the writer says 14, no record of at most 1,024 cells reads as what it was given
+  pub write-refused : writeRefusal r bytes room ≡ 14 → (cells : List ℕ) → length cells ≤ 1024 → ReadsAs r bytes cells → ⊥
+  unfolding writeRefusal
+  write-refused h cells short w =
+      true≢false (sym (reads-writable r bytes cells short w) ∙ not-writable (ltb room 1024) (writable r bytes) h)
+
+  -- and where none does, it says 14
+  pub write-refuses : areBytes bytes ≡ true → 1024 ≤ room → ((cells : List ℕ) → length cells ≤ 1024 → ReadsAs r bytes cells → ⊥)
+      → writeRefusal r bytes room ≡ 14
+  unfolding writeRefusal
+  write-refuses small enough none = rw (le-ltb room 1024 enough) (go (writable r bytes) refl)
+    where
+      go : (b : Bool) → writable r bytes ≡ b → _≡_ {A = ℕ} (cond b 0 14) 14
+      go true e = let (cells, short, w) = writable-reads r bytes small e in absurd (none cells short w)
+      go false e = refl
