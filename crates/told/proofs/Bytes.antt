@@ -9,7 +9,6 @@ use lib.Dec.{eqb, leb}
 use lib.ListN.{length, drop, length-map}
 use lib.Seq.{getD-append-seam, drop-append-add}
 use borrow.Author.Tests.{leb-true, eq-eqb, lt-ltb, le-leb}
-use Rattle.lists.specs.Lists.{all}
 use Rattle.lists.specs.Numbers.{numbers}
 use Rattle.lists.proofs.Bools.{both, and}
 use Rattle.parity.specs.Parity.{oddBit}
@@ -18,13 +17,10 @@ use Rattle.parity.proofs.Laws.{odd-bit-lt, offer-taken}
 use Rattle.machine.specs.Steps.{digits, identityOf}
 use Rattle.reader.specs.Points.{ninthOf, byteOf, addressIn, answeredIn, isWriteByte, isNewAddress, isOffered}
 use Rattle.reader.specs.Read.{cellAt, identityByte, tenOf, tensOf}
+use Rattle.records.specs.Records.{areBytes}
 use Rattle.told.specs.Told.{bytesOf}
 
 -- ---- bytes of a number
-
--- whether each of them is a byte
-abbrev pub areBytes : List ℕ → Bool
-areBytes bytes = all (λ b. leb b 255) bytes
 
 -- one byte behind a number is taken off it again
 byte-off : (n b : ℕ) → b ≤ 255 → ((n * 256 + b) / 256 ≡ n) × ((n * 256 + b) % 256 ≡ b)

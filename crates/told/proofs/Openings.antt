@@ -3,6 +3,7 @@ use Prim.Native.Nat.{ℕ, _+_}
 use mathlib.Core.Path.{_≡_, refl, sym, ap, _∙_}
 use mathlib.Core.Bool.{Bool, true, false, false≢true}
 use mathlib.Core.List.{List, [], _∷_, _++_}
+use mathlib.Core.Option.{some}
 use native.Mathlib.Omega.{arith}
 use lib.Count.{onesIn}
 use lib.Dec.{eqb}
@@ -25,7 +26,7 @@ use Rattle.reader.specs.Points as points
 use Rattle.reader.specs.Read.{stopped, from}
 use Rattle.machine.specs.Moments.{idle, opened, direct}
 use Rattle.machine.specs.Steps.{Step, did, commanded, roundRule, openedAnswer}
-use Rattle.told.specs.Told.{commandAt}
+use Rattle.told.specs.Told.{commandChosen}
 use Rattle.told.proofs.Asks.{assign-can, nothing-asked}
 use Rattle.told.proofs.Stands.{none-left, reads, joiningOf, openingOf, at-opened, at-direct, at-round, at-idle, hearing, said, Leads}
 
@@ -52,10 +53,11 @@ alone false c n may = refl
 
 -- ---- the steps
 
-module _ (behind : Bool) (choice asked wanted : ℕ) (f : Facts) (rows : List Row) (may : mayFollow (joiningOf behind) (commandAt choice) ≡ true) where
+module _ (behind : Bool) (choice asked wanted : ℕ) (f : Facts) (rows : List Row)
+    (may : mayFollow (joiningOf behind) (commandChosen choice) ≡ true) where
   -- a step leads on from opened, with an answer or none
   abbrev OpenedLeads : Bool → Step → Type 0
-  OpenedLeads heard s = Leads behind choice asked wanted (at-opened f rows may) (λ _. heard) s
+  OpenedLeads heard s = Leads behind choice asked wanted (at-opened f rows may) (some heard) s
 
   -- to idle
   opened-ends : (heard : Bool) (rows′ : List Row) (cells : List ℕ)
@@ -75,11 +77,11 @@ module _ (behind : Bool) (choice asked wanted : ℕ) (f : Facts) (rows : List Ro
   silent-ends = opened-ends false rows (broadcastWrite false ∷ stopCell ∷ []) (silent-read behind)
 
   -- the choice's command may follow
-  follows : (c : Command) (x : ℕ) → commandAt choice ≡ c → c ≡ commandOf x → mayFollow (joiningOf behind) (commandOf x) ≡ true
+  follows : (c : Command) (x : ℕ) → commandChosen choice ≡ c → c ≡ commandOf x → mayFollow (joiningOf behind) (commandOf x) ≡ true
   follows c x z e = rw (← e, ← z) may
 
   -- reset all: 504, 13, 514
-  reset-ends : commandAt choice ≡ ResetAll → asked ≡ 0
+  reset-ends : commandChosen choice ≡ ResetAll → asked ≡ 0
       → OpenedLeads true (did (idle f (replicate 32 noRow)) (broadcastWrite true ∷ resetAllCell ∷ stopCell ∷ []))
   unfolding from next commandOf oddBit parity onesIn
   reset-ends z a =
@@ -89,7 +91,7 @@ module _ (behind : Bool) (choice asked wanted : ℕ) (f : Facts) (rows : List Ro
       ∙ rw (z, a) (ap (stopped (bare (joiningOf behind) ResetAll) xs) (omega arith)))
 
   -- silence and allow: 504, the command, 16, 514
-  about-ends : (c : Command) (x : ℕ) → commandAt choice ≡ c → asked ≡ 0 → c ≡ commandOf x
+  about-ends : (c : Command) (x : ℕ) → commandChosen choice ≡ c → asked ≡ 0 → c ≡ commandOf x
       → points.commanded (joiningOf behind) c ≡ to (event (joiningOf behind) c)
       → OpenedLeads true (did (idle f rows) (broadcastWrite true ∷ x ∷ joiningCell ∷ stopCell ∷ []))
   unfolding from next oddBit parity onesIn
@@ -100,7 +102,7 @@ module _ (behind : Bool) (choice asked wanted : ℕ) (f : Facts) (rows : List Ro
       ∙ rw (z, a) (ap (stopped (bare (joiningOf behind) c) xs) (omega arith)))
 
   -- set and move: 504, the command, 513, direct
-  direct-follows : (c : Command) (x : ℕ) → commandAt choice ≡ c → c ≡ commandOf x → mayFollow (joiningOf true) c ≡ false
+  direct-follows : (c : Command) (x : ℕ) → commandChosen choice ≡ c → c ≡ commandOf x → mayFollow (joiningOf true) c ≡ false
       → points.commanded (joiningOf behind) c ≡ to (again (header c))
       → OpenedLeads true (did (direct f rows choice asked wanted) (broadcastWrite true ∷ x ∷ repeatedStartCell ∷ []))
   unfolding from next
@@ -126,7 +128,7 @@ module _ (behind : Bool) (choice asked wanted : ℕ) (f : Facts) (rows : List Ro
     cells =
         λ xs at.
         command-read behind assignCell (repeatedStartCell ∷ xs) at (again (round (joiningOf behind) 0))
-        (follows Assign assignCell (ap commandAt z) refl) refl
+        (follows Assign assignCell (ap commandChosen z) refl) refl
         ∙ ap (from (round (joiningOf behind) 0) xs) (omega arith);
     ten = λ xs os same. same;
   }
@@ -137,7 +139,7 @@ module _ (behind : Bool) (choice asked wanted : ℕ) (f : Facts) (rows : List Ro
   commanded-leads right =
       let free : (k : ℕ) → choice ≡ k → eqb k 2 ≡ false → eqb k 3 ≡ false → asked ≡ 0 =
       λ k z i j. nothing-asked f rows asked wanted choice (rw z i) (rw z j) right in
-      let by : (k : ℕ) → eqb choice k ≡ true → commandAt choice ≡ commandAt k = λ k e. ap commandAt (eqb-true choice k e) in
+      let by : (k : ℕ) → eqb choice k ≡ true → commandChosen choice ≡ commandChosen k = λ k e. ap commandChosen (eqb-true choice k e) in
       cond-by (OpenedLeads true) (eqb choice 0)
       (λ e. let z = eqb-true choice 0 e in round-follows z (free 0 z refl refl) (assign-can f rows asked wanted (rw z at right))) λ zero.
       cond-by (OpenedLeads true) (eqb choice 1) (λ e. reset-ends (by 1 e) (free 1 (eqb-true choice 1 e) refl refl)) λ one.
@@ -150,7 +152,7 @@ module _ (behind : Bool) (choice asked wanted : ℕ) (f : Facts) (rows : List Ro
 
   -- an answer, or none
   pub opened-leads : (heard : Bool) → askedRight f rows choice asked wanted ≡ true
-      → Leads behind choice asked wanted (at-opened f rows may) (λ _. heard) (openedAnswer (opened f rows choice asked wanted) heard)
+      → Leads behind choice asked wanted (at-opened f rows may) (some heard) (openedAnswer (opened f rows choice asked wanted) heard)
   unfolding openedAnswer
   opened-leads true right = commanded-leads right
   opened-leads false right = silent-ends

@@ -3,6 +3,8 @@ use Prim.Native.Nat.{ℕ, suc, _+_, _≤_}
 use mathlib.Core.Path.{_≡_, refl, ap, _∙_}
 use mathlib.Core.Bool.{Bool, true, false, cond}
 use mathlib.Core.List.{List, [], _∷_, _++_, map}
+use mathlib.Core.Option.{none, some}
+use native.Mathlib.Nat.{add-zero}
 use native.Mathlib.Omega.{arith}
 use lib.Dec.{eqb, leb}
 use lib.ListN.{length, length-map}
@@ -18,13 +20,14 @@ use Rattle.readings.specs.declared.Command.{Command}
 use Rattle.readings.specs.Readings.{directed, assigned}
 use Rattle.reader.specs.Points.{header, round, offer, next}
 use Rattle.reader.specs.Read.{stopped, from, tensOf}
+use Rattle.records.specs.Records.{areBytes}
 use Rattle.machine.specs.declared.Machine.{Machine}
 use Rattle.machine.specs.Moments.{idle, direct, listening, offering}
 use Rattle.machine.specs.Moments as moments
 use Rattle.machine.specs.Steps.{did, identityOf, onward, onwardCell, roundRule, roundAnswer, listened, acceptedRows, accepted, declined, offeredAnswer, directAnswer}
 use Rattle.machine.specs.Steps as steps
-use Rattle.told.specs.Told.{Offer, bytesOf, tens, commandAt}
-use Rattle.told.proofs.Bytes.{areBytes, bytes-back, round-read, identity-fits, byte-answered, ninth-answered, header-fits, header-address, header-answered, new-fits, new-address, offered-small, offered-fits}
+use Rattle.told.specs.Told.{Offer, bytesOf, tenEach, commandChosen}
+use Rattle.told.proofs.Bytes.{bytes-back, round-read, identity-fits, byte-answered, ninth-answered, header-fits, header-address, header-answered, new-fits, new-address, offered-small, offered-fits}
 use Rattle.told.proofs.Stands.{none-left, joiningOf, at-direct, at-round, at-listening, at-offered, at-idle, hearing, said, Leads}
 
 -- ---- the cells
@@ -81,34 +84,34 @@ module _ (behind : Bool) (choice asked wanted : ℕ) (f : Facts) (rows : List Ro
     (seven : (asked ≤ 127) × (wanted ≤ 127)) where
   -- to idle
   direct-ends : (heard : Bool) (f′ : Facts) (rows′ : List Row) (cells : List ℕ)
-      → ((xs : List ℕ) (at : ℕ) → from (header (commandAt choice)) (cells ++ xs) at
-      ≡ stopped (directed (commandAt choice) asked (cond heard wanted 0) heard) xs (at + length cells))
-      → Leads behind choice asked wanted (at-direct f rows alone) (λ _. heard) (did (idle f′ rows′) cells)
+      → ((xs : List ℕ) (at : ℕ) → from (header (commandChosen choice)) (cells ++ xs) at
+      ≡ stopped (directed (commandChosen choice) asked (cond heard wanted 0) heard) xs (at + length cells))
+      → Leads behind choice asked wanted (at-direct f rows alone) (some heard) (did (idle f′ rows′) cells)
   direct-ends heard f′ rows′ cells h = record {
     on = at-idle f′ rows′ (hearing true heard false 0);
     machine = refl;
     so = refl;
     cells = λ xs at. rw alone (h xs at);
-    ten = λ xs os none. none;
+    ten = λ xs os empty. empty;
   }
 
   -- the cells of an answer
   direct-heard : (xs : List ℕ) (at : ℕ)
-      → from (header (commandAt choice)) (answerCell (writeByte asked) true ∷ dataCell (writeByte wanted) ∷ stopCell ∷ xs) at
-      ≡ stopped (directed (commandAt choice) asked wanted true) xs (at + 3)
-  direct-heard xs at = header-heard (commandAt choice) asked wanted xs at (seven .0) (seven .1)
+      → from (header (commandChosen choice)) (answerCell (writeByte asked) true ∷ dataCell (writeByte wanted) ∷ stopCell ∷ xs) at
+      ≡ stopped (directed (commandChosen choice) asked wanted true) xs (at + 3)
+  direct-heard xs at = header-heard (commandChosen choice) asked wanted xs at (seven .0) (seven .1)
 
   -- an answer, or none
   pub direct-leads : (heard : Bool)
-      → Leads behind choice asked wanted (at-direct f rows alone) (λ _. heard) (directAnswer (direct f rows choice asked wanted) heard)
+      → Leads behind choice asked wanted (at-direct f rows alone) (some heard) (directAnswer (direct f rows choice asked wanted) heard)
   unfolding directAnswer steps.directed
   direct-leads true =
       let cells = answerCell (writeByte asked) true ∷ dataCell (writeByte wanted) ∷ stopCell ∷ [] in
-      cond-by (λ (m : Machine). Leads behind choice asked wanted (at-direct f rows alone) (λ _. true) (did m cells)) (eqb choice 2)
+      cond-by (λ (m : Machine). Leads behind choice asked wanted (at-direct f rows alone) (some true) (did m cells)) (eqb choice 2)
       (λ e. direct-ends true _ _ cells direct-heard) (λ e. direct-ends true _ _ cells direct-heard)
   direct-leads false =
       direct-ends false f rows (answerCell (writeByte asked) false ∷ stopCell ∷ [])
-      (λ xs at. header-silent (commandAt choice) asked xs at (seven .0))
+      (λ xs at. header-silent (commandChosen choice) asked xs at (seven .0))
 
 -- ---- in an assign's rounds
 
@@ -119,31 +122,31 @@ module _ (behind : Bool) (choice asked wanted : ℕ) (f : Facts) (rows : List Ro
 
   -- round: an answer, or none
   pub round-leads : (last heard : Bool)
-      → Leads behind choice asked wanted (at-round f rows refusals n last z a) (λ _. heard) (roundAnswer (moments.round f rows refusals) heard)
+      → Leads behind choice asked wanted (at-round f rows refusals n last z a) (some heard) (roundAnswer (moments.round f rows refusals) heard)
   unfolding roundAnswer
   round-leads last true = record {
     on = at-listening f rows refusals n z a;
     machine = refl;
-    so = refl;
+    so = rw add-zero;
     cells = round-heard (joiningOf behind) n;
     ten = λ xs os same. same;
   }
   round-leads last false = record {
     on = at-idle f rows (hearing true false false n);
     machine = refl;
-    so = refl;
+    so = rw add-zero;
     cells = λ xs at. rw (← rounds-say false n) (round-silent (joiningOf behind) n xs at);
-    ten = λ xs os none. none-left os (broadcastRead false ∷ stopCell ∷ xs) none;
+    ten = λ xs os empty. none-left os (broadcastRead false ∷ stopCell ∷ xs) empty;
   }
 
   -- listening: eight bytes
   pub listening-leads : (bytes : List ℕ) → length bytes ≡ 8 → areBytes bytes ≡ true
-      → Leads behind choice asked wanted (at-listening f rows refusals n z a) (λ before. before) (listened (listening f rows refusals) bytes)
+      → Leads behind choice asked wanted (at-listening f rows refusals n z a) none (listened (listening f rows refusals) bytes)
   unfolding listened
   listening-leads bytes long small = record {
     on = at-offered f rows refusals n _ bytes long small z a;
     machine = refl;
-    so = refl;
+    so = rw add-zero;
     cells =
         λ xs at.
         rw long at (bytes-heard (joiningOf behind) n bytes xs at small)
@@ -153,9 +156,9 @@ module _ (behind : Bool) (choice asked wanted : ℕ) (f : Facts) (rows : List Ro
 
   module _ (address : ℕ) (bytes : List ℕ) (long : length bytes ≡ 8) (small : areBytes bytes ≡ true) (heard : Bool) where
     -- the offer's ten bytes
-    offer-told : (last : ℕ) (xs : List ℕ) (os : List Offer) → tensOf (length os) xs ≡ tens os
+    offer-told : (last : ℕ) (xs : List ℕ) (os : List Offer) → tensOf (length os) xs ≡ tenEach os
         → tensOf (suc (length os)) (broadcastRead true ∷ (map identityCell bytes ++ (answerCell (offeredByte address) heard ∷ last ∷ xs)))
-        ≡ bytesOf 8 (identityOf bytes) ++ (offeredByte address ∷ cond heard 0 1 ∷ tens os)
+        ≡ bytesOf 8 (identityOf bytes) ++ (offeredByte address ∷ cond heard 0 1 ∷ tenEach os)
     offer-told last xs os same =
         round-read (broadcastRead true) bytes (answerCell (offeredByte address) heard) last xs long small (length os)
         ∙ rw (
@@ -167,7 +170,7 @@ module _ (behind : Bool) (choice asked wanted : ℕ) (f : Facts) (rows : List Ro
 
     -- offered: 513 and round, or 514 and idle
     onward-leads : (on : Bool) (f′ : Facts) (rows′ : List Row) (refusals′ : ℕ)
-        → Leads behind choice asked wanted (at-offered f rows refusals n address bytes long small z a) (λ _. heard)
+        → Leads behind choice asked wanted (at-offered f rows refusals n address bytes long small z a) (some heard)
         (onward on f′ rows′ refusals′ (answerCell (offeredByte address) heard ∷ []))
     onward-leads true f′ rows′ refusals′ = record {
       on = at-round f′ rows′ refusals′ (n + 1) true z a;
@@ -181,12 +184,12 @@ module _ (behind : Bool) (choice asked wanted : ℕ) (f : Facts) (rows : List Ro
       machine = refl;
       so = refl;
       cells = λ xs at. rw (← rounds-say true (n + 1)) (offered-over (joiningOf behind) n address heard xs at);
-      ten = λ xs os none. offer-told (onwardCell false) xs os (none-left os xs none);
+      ten = λ xs os empty. offer-told (onwardCell false) xs os (none-left os xs empty);
     }
 
   -- an answer, or none
   pub offered-leads : (address : ℕ) (bytes : List ℕ) (long : length bytes ≡ 8) (small : areBytes bytes ≡ true) (heard : Bool)
-      → Leads behind choice asked wanted (at-offered f rows refusals n address bytes long small z a) (λ _. heard)
+      → Leads behind choice asked wanted (at-offered f rows refusals n address bytes long small z a) (some heard)
       (offeredAnswer (offering f rows (identityOf bytes) address refusals) heard)
   unfolding accepted roundRule declined
   offered-leads address bytes long small true =

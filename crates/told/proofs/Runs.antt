@@ -1,22 +1,24 @@
 -- The calls of a record, one after the other: the reader follows the machine.
 use Prim.Native.Nat.{ℕ, _+_}
 use mathlib.Core.Path.{_≡_, refl, ap, _∙_}
-use mathlib.Core.Bool.{Bool, true, false, cond, and-eq-true-iff, false≢true}
+use mathlib.Core.Bool.{Bool, true, and-eq-true-iff, false≢true}
 use mathlib.Core.List.{List, [], _∷_, _++_, append-assoc}
+use mathlib.Core.Option.{none, some}
+use native.Mathlib.Nat.{add-zero}
 use native.Mathlib.Omega.{arith}
 use lib.ListN.{length, length-append}
-use Rattle.lists.specs.Lists.{all}
 use Rattle.lists.proofs.Bools.{both}
 use Rattle.machine.specs.declared.Machine.{Machine}
+use Rattle.machine.specs.declared.Moment.the-variants.{Opened, Round, Offered, Direct}
 use Rattle.machine.specs.Moments.{machineRight, isListening}
 use Rattle.machine.specs.Steps.{listened, answerAt}
 use Rattle.reader.specs.Read.{tensOf}
-use Rattle.life.specs.Life.{Call, begin, answer, identity, giveUp, join, retire, ask, stepOf, after, afterAll}
+use Rattle.records.specs.Records.{areBytes}
+use Rattle.life.specs.Life.{Call, stepOf, after, afterAll}
 use Rattle.life.proofs.Sound.{right-says}
-use Rattle.told.specs.Told.{goesOn, cellsOver, takenAt, heardIn, heardAt, Offer, offersMade}
-use Rattle.told.proofs.Bytes.{areBytes}
+use Rattle.told.specs.Told.{goOn, cellsOver, answerOf, takenAt, heardAt, offerOf, offersMade}
 use Rattle.told.proofs.Asks.{addresses-small}
-use Rattle.told.proofs.Stands.{answer-or, identity-or, reads, Stand, at-opened, at-direct, at-round, at-listening, at-offered, at-idle, machineAt, So, hearing, soFar, soAfter, readerAt, TensIn, Leads, stays}
+use Rattle.told.proofs.Stands.{carriesOn, goes-or-refused, reads, Stand, at-opened, at-direct, at-round, at-listening, at-offered, at-idle, machineAt, So, hearing, soFar, soAfter, readerAt, TensIn, Leads, stays}
 use Rattle.told.proofs.Openings.{opened-leads}
 use Rattle.told.proofs.Rounds.{direct-leads, round-leads, listening-leads, offered-leads}
 
@@ -24,29 +26,25 @@ use Rattle.told.proofs.Rounds.{direct-leads, round-leads, listening-lea
 abbrev pub soOver : List Call → Machine → So → So
 soOver cs m so =
     record {
-      first = heardAt 1 (so .first) cs m;
-      second = heardAt 5 (so .second) cs m;
-      last = heardAt 2 (so .last) cs m;
+      first = heardAt Opened (so .first) cs m;
+      second = heardAt Direct (so .second) cs m;
+      last = heardAt Round (so .last) cs m;
       offers = so .offers + length (offersMade cs m);
     }
 
 -- it is what is heard behind the first of them, and then behind the others
 more-so : (c : Call) (cs : List Call) (m : Machine) (so : So)
-    → soOver (c ∷ cs) m so ≡ soOver cs (after c m) (soAfter m (stepOf c m) (heardIn c) so)
+    → soOver (c ∷ cs) m so ≡ soOver cs (after c m) (soAfter m (stepOf c m) (answerOf c) so)
 more-so c cs m so =
-    ap (hearing (heardAt 1 (so .first) (c ∷ cs) m) (heardAt 5 (so .second) (c ∷ cs) m) (heardAt 2 (so .last) (c ∷ cs) m))
-    (go (takenAt 4 c m) _ (offersMade cs (after c m)))
-  where
-    go : (b : Bool) (o : Offer) (os : List Offer) → so .offers + length (cond b (o ∷ os) os) ≡ cond b (so .offers + 1) (so .offers) + length os
-    go true o os = omega arith
-    go false o os = refl
+    ap (hearing (heardAt Opened (so .first) (c ∷ cs) m) (heardAt Direct (so .second) (c ∷ cs) m) (heardAt Round (so .last) (c ∷ cs) m))
+    (omega (arith, length-append (offerOf m (takenAt Offered c m)) (offersMade cs (after c m))))
 
 module _ (behind : Bool) (choice asked wanted : ℕ) where
   -- ---- one call
 
   -- an answer, or none, to a right machine
   answer-leads : (s : Stand behind choice asked wanted) (heard : Bool) → machineRight (machineAt s) ≡ true
-      → Leads behind choice asked wanted s (λ _. heard) (answerAt (machineAt s .moment) (machineAt s) heard)
+      → Leads behind choice asked wanted s (some heard) (answerAt (machineAt s .moment) (machineAt s) heard)
   answer-leads (at-opened f rows may) heard right =
       let t = simp and-eq-true-iff at (right-says _ right .1) in opened-leads behind choice asked wanted f rows may heard (t .0 .0)
   answer-leads (at-direct f rows alone) heard right =
@@ -55,15 +53,15 @@ module _ (behind : Bool) (choice asked wanted : ℕ) where
       direct-leads behind choice asked wanted f rows alone (addresses-small f rows asked wanted choice (r .0) (t .0) (t .1 .0 .0)) heard
   answer-leads (at-round f rows refusals n last z a) heard right = round-leads behind choice asked wanted f rows refusals n z a last heard
   answer-leads (at-listening f rows refusals n z a) heard right =
-      stays behind choice asked wanted (at-listening f rows refusals n z a) (λ _. heard) 10 refl
+      stays behind choice asked wanted (at-listening f rows refusals n z a) (some heard) 10 refl
   answer-leads (at-offered f rows refusals n address bytes long small z a) heard right =
       offered-leads behind choice asked wanted f rows refusals n z a address bytes long small heard
-  answer-leads (at-idle f rows so) heard right = stays behind choice asked wanted (at-idle f rows so) (λ _. heard) 10 refl
+  answer-leads (at-idle f rows so) heard right = stays behind choice asked wanted (at-idle f rows so) (some heard) 10 refl
 
   -- an identity
   identity-leads : (s : Stand behind choice asked wanted) (bytes : List ℕ) → isListening (machineAt s .moment) ≡ true
       → length bytes ≡ 8 → areBytes bytes ≡ true
-      → Leads behind choice asked wanted s (λ before. before) (listened (machineAt s) bytes)
+      → Leads behind choice asked wanted s none (listened (machineAt s) bytes)
   identity-leads (at-opened f rows may) bytes l long small = absurd (false≢true l)
   identity-leads (at-direct f rows alone) bytes l long small = absurd (false≢true l)
   identity-leads (at-round f rows refusals n last z a) bytes l long small = absurd (false≢true l)
@@ -72,20 +70,11 @@ module _ (behind : Bool) (choice asked wanted : ℕ) where
   identity-leads (at-offered f rows refusals n address bytes′ long′ small′ z a) bytes l long small = absurd (false≢true l)
   identity-leads (at-idle f rows so) bytes l long small = absurd (false≢true l)
 
-  -- any call between Begin or Join and the end
-  call-leads : (s : Stand behind choice asked wanted) (c : Call) → goesOn c ≡ true
-      → Leads behind choice asked wanted s (heardIn c) (stepOf c (machineAt s))
-  call-leads s (begin choice′ static new ticket room) goes = absurd (false≢true goes)
-  call-leads s (answer heard room) goes =
-      answer-or (Leads behind choice asked wanted s (λ _. heard)) (machineAt s)
-      (stays behind choice asked wanted s (λ _. heard)) heard room (answer-leads s heard)
-  call-leads s (identity bytes room) goes =
-      identity-or (Leads behind choice asked wanted s (λ before. before)) (machineAt s)
-      (stays behind choice asked wanted s (λ before. before)) bytes room (λ l long. identity-leads s bytes l long goes)
-  call-leads s (giveUp room) goes = absurd (false≢true goes)
-  call-leads s (join choice′ room) goes = absurd (false≢true goes)
-  call-leads s (retire ticket) goes = absurd (false≢true goes)
-  call-leads s (ask ticket) goes = absurd (false≢true goes)
+  -- any call that goes on or is refused
+  call-leads : (s : Stand behind choice asked wanted) (c : Call) → carriesOn c (stepOf c (machineAt s)) ≡ true
+      → Leads behind choice asked wanted s (answerOf c) (stepOf c (machineAt s))
+  call-leads s =
+      goes-or-refused (Leads behind choice asked wanted s) (machineAt s) (stays behind choice asked wanted s) (answer-leads s) (identity-leads s)
 
   -- ---- a list of calls
 
@@ -114,14 +103,14 @@ module _ (behind : Bool) (choice asked wanted : ℕ) where
   none-runs s = record {
     on = s;
     machine = refl;
-    so = ap (hearing (soFar s .first) (soFar s .second) (soFar s .last)) (omega arith);
+    so = rw add-zero;
     cells = λ xs at. ap (reads (readerAt s) xs) (omega arith);
     ten = none-ten s;
   }
 
   -- one call more in front
   more-runs : (s : Stand behind choice asked wanted) (c : Call) (cs : List Call)
-      → (l : Leads behind choice asked wanted s (heardIn c) (stepOf c (machineAt s))) → Runs (l .on) cs → Runs s (c ∷ cs)
+      → (l : Leads behind choice asked wanted s (answerOf c) (stepOf c (machineAt s))) → Runs (l .on) cs → Runs s (c ∷ cs)
   more-runs s c cs l r =
       let m = machineAt s in
       let rest = cellsOver cs (after c m) in
@@ -142,10 +131,10 @@ module _ (behind : Bool) (choice asked wanted : ℕ) where
         ten = λ xs. rw append-assoc (l .ten (rest ++ xs) (offersMade cs (after c m)) (rw (l .machine) (r .ten xs)));
       }
 
-  -- any calls between Begin or Join and the end
-  pub runs : (s : Stand behind choice asked wanted) (cs : List Call) → all goesOn cs ≡ true → Runs s cs
+  -- any calls that go on or are refused
+  pub runs : (s : Stand behind choice asked wanted) (cs : List Call) → goOn cs (machineAt s) ≡ true → Runs s cs
   runs s [] goes = none-runs s
   runs s (c ∷ cs) goes =
-      let t = both (goesOn c) (all goesOn cs) goes in
+      let t = both (carriesOn c (stepOf c (machineAt s))) (goOn cs (after c (machineAt s))) goes in
       let l = call-leads s c (t .0) in
-      more-runs s c cs l (runs (l .on) cs (t .1))
+      more-runs s c cs l (runs (l .on) cs (rw (l .machine) at (t .1)))

@@ -1,8 +1,10 @@
 -- The machine and the reader side by side: where each stands in a record, and what the record has said so far.
 use Prim.Native.Nat.{ℕ, _+_}
-use mathlib.Core.Path.{_≡_, refl, ap}
-use mathlib.Core.Bool.{Bool, true, false, cond, _&&_, and-false}
+use mathlib.Core.Path.{_≡_, refl, sym, ap, subst}
+use mathlib.Core.Bool.{Bool, true, false, cond, not, _&&_, _||_, or-false, false≢true}
 use mathlib.Core.List.{List, [], _∷_, _++_, map}
+use mathlib.Core.Option.{Option, none, some, Option·getD}
+use native.Mathlib.Nat.{add-zero}
 use native.Mathlib.Omega.{arith}
 use lib.Dec.{eqb}
 use lib.ListN.{length, drop}
@@ -20,41 +22,54 @@ use Rattle.readings.specs.Readings.{mayFollow}
 use Rattle.reader.specs.declared.Answer.{Answer}
 use Rattle.reader.specs.Points.{Point, Next, to, over, opening, reopening, header, round, offer}
 use Rattle.reader.specs.Read.{stopped, lead, from, tensOf}
+use Rattle.records.specs.Records.{areBytes}
 use Rattle.machine.specs.declared.Machine.{Machine}
+use Rattle.machine.specs.declared.Moment.{Moment}
+use Rattle.machine.specs.declared.Moment.the-variants.{Opened, Round, Offered, Direct}
 use Rattle.machine.specs.Moments.{idle, opened, direct, listening, offering, machineRight, isListening}
 use Rattle.machine.specs.Moments as moments
 use Rattle.machine.specs.Refusals.{stepRefusal, identityRefusal}
-use Rattle.machine.specs.Steps.{Step, refuse, identityOf, listened, answerAt}
-use Rattle.machine.specs.Calls.{answered, identified}
+use Rattle.machine.specs.Steps.{Step, refuse, beginning, joining, identityOf, listened, answerAt}
 use Rattle.machine.proofs.Laws.{step-right}
-use Rattle.told.specs.Told.{momentNumber, Offer, tens, commandAt}
-use Rattle.told.proofs.Bytes.{areBytes}
+use Rattle.life.specs.Life.{Call, begin, answer, identity, giveUp, join, retire, ask, stepOf}
+use Rattle.life.proofs.Given.{stepping, refusing, steps-unless}
+use Rattle.told.specs.Told.{goesOn, momentNumber, answerOf, Offer, offerOf, tenEach, commandChosen}
 
 -- ---- a call is refused, or taken
 
--- a number that is not 0
-abbrev pub refuses : ℕ → Type 0
-refuses k = eqb k 0 ≡ false
+-- the step of a call that goes on, or one that is refused
+abbrev pub carriesOn : Call → Step → Bool
+carriesOn c s = goesOn c || not (eqb (s .refusal) 0)
 
-module _ (P : Step → Type 0) (m : Machine) (kept : (k : ℕ) → refuses k → P (refuse m k)) where
-  -- an answer, or none: taken, it is asked of a right machine
-  pub answer-or : (heard : Bool) (room : ℕ) → (machineRight m ≡ true → P (answerAt (m .moment) m heard)) → P (answered m heard room)
-  unfolding answered
-  answer-or heard room took =
-      let k = stepRefusal room m 0 in
-      cond-by P (eqb k 0) (λ e. took (step-right room m refl (eqb-true k 0 e))) (λ e. kept k e)
+-- with this refusal, 0 for none, nothing is taken of what was heard
+abbrev pub untaken : ℕ → Option Bool → Type 0
+untaken k heard = cond (eqb k 0) heard none ≡ none
 
-  -- an identity: taken, it has eight bytes, and the machine is listening
-  pub identity-or : (bytes : List ℕ) (room : ℕ) → (isListening (m .moment) ≡ true → length bytes ≡ 8 → P (listened m bytes))
-      → P (identified m bytes room)
-  unfolding identified identityRefusal stepRefusal
-  identity-or bytes room took =
-      let k = identityRefusal m (length bytes) room in
-      cond-by P (eqb k 0)
-      (λ e.
-      let t = simp not-refused at (eqb-true k 0 e) in
-      took (not-false (isListening (m .moment)) (t .1 .1 .0)) (eqb-true (length bytes) 8 (not-false (eqb (length bytes) 8) (t .1 .1 .1 .0))))
-      (λ e. kept k e)
+module _ (P : Option Bool → Step → Type 0) (m : Machine) (kept : (heard : Option Bool) (k : ℕ) → untaken k heard → P heard (refuse m k))
+    (answers : (heard : Bool) → machineRight m ≡ true → P (some heard) (answerAt (m .moment) m heard))
+    (identities : (bytes : List ℕ) → isListening (m .moment) ≡ true → length bytes ≡ 8 → areBytes bytes ≡ true → P none (listened m bytes)) where
+  -- P holds of the step of a call that is taken: an answer is asked of a right machine, an identity has eight bytes, and the machine is listening
+  took : (c : Call) → eqb (refusing c m) 0 ≡ true → carriesOn c (stepping c m) ≡ true → P (answerOf c) (stepping c m)
+  unfolding beginning joining listened identityRefusal stepRefusal
+  took (begin choice static new ticket room) e goes = absurd (false≢true goes)
+  took (answer heard room) e goes = answers heard (step-right room m refl (eqb-true (stepRefusal room m 0) 0 e))
+  took (identity bytes room) e goes =
+      let t = simp not-refused at (eqb-true (identityRefusal m (length bytes) room) 0 e) in
+      identities bytes (not-false (isListening (m .moment)) (t .1 .1 .0))
+      (eqb-true (length bytes) 8 (not-false (eqb (length bytes) 8) (t .1 .1 .1 .0))) (rw or-false at goes)
+  took (giveUp room) e goes = absurd (false≢true goes)
+  took (join choice room) e goes =
+      cond-by (λ (s : Step). carriesOn (join choice room) s ≡ true → P none s) (eqb choice 0)
+      (λ z h. absurd (false≢true h)) (λ n h. absurd (false≢true h)) goes
+  took (retire ticket) e goes = absurd (false≢true goes)
+  took (ask ticket) e goes = kept none 0 refl
+
+  -- so P holds of any call that goes on or is refused
+  pub goes-or-refused : (c : Call) → carriesOn c (stepOf c m) ≡ true → P (answerOf c) (stepOf c m)
+  goes-or-refused c =
+      subst (λ (s : Step). carriesOn c s ≡ true → P (answerOf c) s) (sym (steps-unless c m))
+      (cond-by (λ (s : Step). carriesOn c s ≡ true → P (answerOf c) s) (eqb (refusing c m) 0)
+      (took c) (λ n goes. kept (answerOf c) (refusing c m) (rw n)))
 
 -- ---- where they stand
 
@@ -84,7 +99,7 @@ hearing first second last offers = record { first = first; second = second; last
 module _ (behind : Bool) (choice asked wanted : ℕ) where
   -- at each moment of the machine: its facts and rows, and what it has done
   pub data Stand : Type 0 where
-    at-opened : (f : Facts) (rows : List Row) → mayFollow (joiningOf behind) (commandAt choice) ≡ true → Stand
+    at-opened : (f : Facts) (rows : List Row) → mayFollow (joiningOf behind) (commandChosen choice) ≡ true → Stand
     at-direct : (f : Facts) (rows : List Row) → behind ≡ false → Stand
     at-round : (f : Facts) (rows : List Row) (refusals n : ℕ) (last : Bool) → choice ≡ 0 → asked ≡ 0 → Stand
     at-listening : (f : Facts) (rows : List Row) (refusals n : ℕ) → choice ≡ 0 → asked ≡ 0 → Stand
@@ -97,7 +112,7 @@ module _ (behind : Bool) (choice asked wanted : ℕ) where
   said so =
       record {
         joining = joiningOf behind;
-        command = cond (so .first) (commandAt choice) commands.None;
+        command = cond (so .first) (commandChosen choice) commands.None;
         header = cond (so .first) asked 0;
         new = cond (so .second) wanted 0;
         direct = so .second;
@@ -127,7 +142,7 @@ module _ {behind : Bool} {choice asked wanted : ℕ} where
   -- the reader
   abbrev pub readerAt : Stand behind choice asked wanted → Next
   readerAt (at-opened f rows may) = to (openingOf behind)
-  readerAt (at-direct f rows alone) = to (header (commandAt choice))
+  readerAt (at-direct f rows alone) = to (header (commandChosen choice))
   readerAt (at-round f rows refusals n last z a) = to (round (joiningOf behind) n)
   readerAt (at-listening f rows refusals n z a) = to (offer (joiningOf behind) n 8)
   readerAt (at-offered f rows refusals n address bytes long small z a) = to (offer (joiningOf behind) n 0)
@@ -136,54 +151,62 @@ module _ {behind : Bool} {choice asked wanted : ℕ} where
   -- the offers still to come are read in the cells still to come, behind those of the round that stand already; there are none in a set, in a
   -- move and behind STOP
   abbrev pub TensIn : Stand behind choice asked wanted → List ℕ → List Offer → Type 0
-  TensIn (at-opened f rows may) xs os = tensOf (length os) (drop 3 xs) ≡ tens os
+  TensIn (at-opened f rows may) xs os = tensOf (length os) (drop 3 xs) ≡ tenEach os
   TensIn (at-direct f rows alone) xs os = os ≡ []
-  TensIn (at-round f rows refusals n last z a) xs os = tensOf (length os) xs ≡ tens os
-  TensIn (at-listening f rows refusals n z a) xs os = tensOf (length os) (broadcastRead true ∷ xs) ≡ tens os
+  TensIn (at-round f rows refusals n last z a) xs os = tensOf (length os) xs ≡ tenEach os
+  TensIn (at-listening f rows refusals n z a) xs os = tensOf (length os) (broadcastRead true ∷ xs) ≡ tenEach os
   TensIn (at-offered f rows refusals n address bytes long small z a) xs os =
-      tensOf (length os) (broadcastRead true ∷ (map identityCell bytes ++ xs)) ≡ tens os
+      tensOf (length os) (broadcastRead true ∷ (map identityCell bytes ++ xs)) ≡ tenEach os
   TensIn (at-idle f rows so) xs os = os ≡ []
 
 -- where there are none, neither are their bytes
-pub none-left : (os : List Offer) (xs : List ℕ) → os ≡ [] → tensOf (length os) xs ≡ tens os
+pub none-left : (os : List Offer) (xs : List ℕ) → os ≡ [] → tensOf (length os) xs ≡ tenEach os
 unfolding tensOf
 none-left os xs e = rw e
 
 -- ---- one step
 
--- whether a step is taken at the moment of this number
-abbrev pub takes : ℕ → Machine → Step → Bool
-takes moment m s = eqb (momentNumber (m .moment)) moment && eqb (s .refusal) 0
+-- what is taken of what was heard, in this step of a machine at this moment
+abbrev pub takes : Moment → Machine → Step → Option Bool → Option Bool
+takes moment m s heard = cond (eqb (momentNumber (m .moment)) (momentNumber moment) && eqb (s .refusal) 0) heard none
+
+-- where nothing is taken at any moment, nothing is at this one
+takes-none : (here taken : Bool) (heard : Option Bool) → cond taken heard none ≡ none → cond (here && taken) heard none ≡ none
+takes-none true taken heard h = h
+takes-none false taken heard h = refl
 
 -- the offers with the one that this step makes
-abbrev pub offersWith : Machine → Step → Bool → List Offer → List Offer
-offersWith m s accepted os = cond (takes 4 m s) (record { identity = m .identity; address = m .offered; accepted = accepted } ∷ os) os
+abbrev pub offersWith : Machine → Step → Option Bool → List Offer → List Offer
+offersWith m s heard os = offerOf m (takes Offered m s heard) ++ os
 
--- what was heard, behind this step too, in which an answer is heard so
-abbrev pub soAfter : Machine → Step → (Bool → Bool) → So → So
-soAfter m s hears so =
+-- what was heard, behind this step too
+abbrev pub soAfter : Machine → Step → Option Bool → So → So
+soAfter m s heard so =
     record {
-      first = cond (takes 1 m s) (hears (so .first)) (so .first);
-      second = cond (takes 5 m s) (hears (so .second)) (so .second);
-      last = cond (takes 2 m s) (hears (so .last)) (so .last);
-      offers = cond (takes 4 m s) (so .offers + 1) (so .offers);
+      first = Option·getD (takes Opened m s heard) (so .first);
+      second = Option·getD (takes Direct m s heard) (so .second);
+      last = Option·getD (takes Round m s heard) (so .last);
+      offers = so .offers + length (offerOf m (takes Offered m s heard));
     }
 
 module _ (behind : Bool) (choice asked wanted : ℕ) where
-  -- the step of a call, in which an answer is heard so, leads from one stand to another
-  pub record Leads (from : Stand behind choice asked wanted) (hears : Bool → Bool) (s : Step) : Type 0 where
+  -- the step of a call that says this was heard leads from one stand to another
+  pub record Leads (from : Stand behind choice asked wanted) (heard : Option Bool) (s : Step) : Type 0 where
     pub on : Stand behind choice asked wanted
     pub machine : s .machine ≡ machineAt on
-    pub so : soAfter (machineAt from) s hears (soFar from) ≡ soFar on
+    pub so : soAfter (machineAt from) s heard (soFar from) ≡ soFar on
     pub cells : (xs : List ℕ) (at : ℕ) → reads (readerAt from) (s .cells ++ xs) at ≡ reads (readerAt on) xs (at + length (s .cells))
-    pub ten : (xs : List ℕ) (os : List Offer) → TensIn on xs os → TensIn from (s .cells ++ xs) (offersWith (machineAt from) s (hears false) os)
+    pub ten : (xs : List ℕ) (os : List Offer) → TensIn on xs os → TensIn from (s .cells ++ xs) (offersWith (machineAt from) s heard os)
 
-  -- a refusal leads nowhere else
-  pub stays : (at : Stand behind choice asked wanted) (hears : Bool → Bool) (k : ℕ) → refuses k → Leads at hears (refuse (machineAt at) k)
-  stays at hears k n = record {
-    on = at;
-    machine = refl;
-    so = simp (n, and-false);
-    cells = λ xs place. ap (reads (readerAt at) xs) (omega arith);
-    ten = λ xs os h. rw (n, and-false) h;
-  }
+  -- a step of which nothing is taken leads nowhere else
+  pub stays : (at : Stand behind choice asked wanted) (heard : Option Bool) (k : ℕ) → untaken k heard → Leads at heard (refuse (machineAt at) k)
+  stays at heard k n =
+      let nothing : (moment : Moment) → takes moment (machineAt at) (refuse (machineAt at) k) heard ≡ none =
+      λ moment. takes-none (eqb (momentNumber (machineAt at .moment)) (momentNumber moment)) (eqb k 0) heard n in
+      record {
+        on = at;
+        machine = refl;
+        so = rw (nothing Opened, nothing Direct, nothing Round, nothing Offered, add-zero);
+        cells = λ xs place. ap (reads (readerAt at) xs) (omega arith);
+        ten = λ xs os h. rw (nothing Offered) h;
+      }

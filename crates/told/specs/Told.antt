@@ -1,16 +1,17 @@
 -- What was done by the calls of a record: a Begin or a Join, and then answers and identities until the machine is idle again.
 use Prim.Native.Nat.{ℕ, zero, suc, _/_, _%_}
-use mathlib.Core.Bool.{Bool, true, false, cond, _&&_}
+use mathlib.Core.Bool.{Bool, true, false, cond, not, _&&_, _||_}
 use mathlib.Core.List.{List, [], _∷_, _++_}
-use lib.Dec.{eqb, leb}
+use mathlib.Core.Option.{Option, none, some, Option·getD}
+use lib.Dec.{eqb}
 use lib.ListN.{length}
-use Rattle.lists.specs.Lists.{all}
 use Rattle.parity.specs.Cells.{offeredByte}
 use Rattle.readings.specs.declared.Joining.{Joining}
 use Rattle.readings.specs.declared.Command.{Command}
 use Rattle.readings.specs.declared.Command.the-variants.{Assign, ResetAll, SetFromStatic, Move, Silence, Allow}
 use Rattle.readings.specs.declared.Command.the-variants as commands
 use Rattle.readings.specs.declared.Reading.{Reading}
+use Rattle.records.specs.Records.{areBytes}
 use Rattle.machine.specs.declared.Machine.{Machine}
 use Rattle.machine.specs.declared.Moment.{Moment}
 use Rattle.machine.specs.declared.Moment.the-variants.{Idle, Opened, Round, Listening, Offered, Direct}
@@ -18,15 +19,20 @@ use Rattle.life.specs.Life.{Call, begin, answer, identity, giveUp, join, retire
 
 -- ---- calls and cells
 
--- an answer, or an identity of bytes: what may be called between Begin or Join and the end, other than giving up
+-- an answer, an identity of bytes, a question: what carries a record on, or leaves it alone
 abbrev pub goesOn : Call → Bool
 goesOn (begin choice static new ticket room) = false
 goesOn (answer heard room) = true
-goesOn (identity bytes room) = all (λ b. leb b 255) bytes
+goesOn (identity bytes room) = areBytes bytes
 goesOn (giveUp room) = false
 goesOn (join choice room) = false
 goesOn (retire ticket) = false
-goesOn (ask ticket) = false
+goesOn (ask ticket) = true
+
+-- calls on a machine, each of which is one of these or is refused
+abbrev pub goOn : List Call → Machine → Bool
+goOn [] m = true
+goOn (c ∷ cs) m = (goesOn c || not (eqb (stepOf c m .refusal) 0)) && goOn cs (after c m)
 
 -- the cells that calls write, in a row
 abbrev pub cellsOver : List Call → Machine → List ℕ
@@ -35,7 +41,7 @@ cellsOver (c ∷ cs) m = stepOf c m .cells ++ cellsOver cs (after c m)
 
 -- ---- answers
 
--- a moment, told apart by its number
+-- moments, told apart by their numbers
 abbrev pub momentNumber : Moment → ℕ
 momentNumber Idle = 0
 momentNumber Opened = 1
@@ -44,23 +50,24 @@ momentNumber Listening = 3
 momentNumber Offered = 4
 momentNumber Direct = 5
 
--- whether a call is taken, not refused, at the moment of this number
-abbrev pub takenAt : ℕ → Call → Machine → Bool
-takenAt moment c m = eqb (momentNumber (m .moment)) moment && eqb (stepOf c m .refusal) 0
+-- what a call says was heard, if it is an answer: something, or nobody
+abbrev pub answerOf : Call → Option Bool
+answerOf (begin choice static new ticket room) = none
+answerOf (answer heard room) = some heard
+answerOf (identity bytes room) = none
+answerOf (giveUp room) = none
+answerOf (join choice room) = none
+answerOf (retire ticket) = none
+answerOf (ask ticket) = none
 
--- what was heard at that moment, by the last answer of these calls that was taken there: an answer or none; `before` if there was no such call
-abbrev pub heardIn : Call → Bool → Bool
-heardIn (begin choice static new ticket room) before = before
-heardIn (answer heard room) before = heard
-heardIn (identity bytes room) before = before
-heardIn (giveUp room) before = before
-heardIn (join choice room) before = before
-heardIn (retire ticket) before = before
-heardIn (ask ticket) before = before
+-- the same, if the machine is at this moment and does not refuse the call
+abbrev pub takenAt : Moment → Call → Machine → Option Bool
+takenAt moment c m = cond (eqb (momentNumber (m .moment)) (momentNumber moment) && eqb (stepOf c m .refusal) 0) (answerOf c) none
 
-abbrev pub heardAt : ℕ → Bool → List Call → Machine → Bool
+-- what the last answer taken at this moment said was heard; `before` if there was none
+abbrev pub heardAt : Moment → Bool → List Call → Machine → Bool
 heardAt moment before [] m = before
-heardAt moment before (c ∷ cs) m = heardAt moment (cond (takenAt moment c m) (heardIn c before) before) cs (after c m)
+heardAt moment before (c ∷ cs) m = heardAt moment (Option·getD (takenAt moment c m) before) cs (after c m)
 
 -- ---- offers
 
@@ -70,12 +77,15 @@ pub record Offer : Type 0 where
   pub address : ℕ
   pub accepted : Bool
 
--- the offers that these calls make: one for each answer at offered
+-- the offer of a machine at offered that is answered
+abbrev pub offerOf : Machine → Option Bool → List Offer
+offerOf m none = []
+offerOf m (some heard) = record { identity = m .identity; address = m .offered; accepted = heard } ∷ []
+
+-- the offers that these calls make: one for each answer taken at offered
 abbrev pub offersMade : List Call → Machine → List Offer
 offersMade [] m = []
-offersMade (c ∷ cs) m =
-    cond (takenAt 4 c m) (record { identity = m .identity; address = m .offered; accepted = heardIn c false } ∷ offersMade cs (after c m))
-    (offersMade cs (after c m))
+offersMade (c ∷ cs) m = offerOf m (takenAt Offered c m) ++ offersMade cs (after c m)
 
 -- the lowest so many bytes of a number, highest first
 unfoldable pub bytesOf : ℕ → ℕ → List ℕ
@@ -83,15 +93,15 @@ bytesOf zero n = []
 bytesOf (suc k) n = bytesOf k (n / 256) ++ (n % 256 ∷ [])
 
 -- ten bytes for each: identity, address byte, 0 accepted or 1 refused
-abbrev pub tens : List Offer → List ℕ
-tens [] = []
-tens (o ∷ os) = bytesOf 8 (o .identity) ++ (offeredByte (o .address) ∷ cond (o .accepted) 0 1 ∷ tens os)
+abbrev pub tenEach : List Offer → List ℕ
+tenEach [] = []
+tenEach (o ∷ os) = bytesOf 8 (o .identity) ++ (offeredByte (o .address) ∷ cond (o .accepted) 0 1 ∷ tenEach os)
 
 -- ---- what was done
 
 -- the command of a choice of Begin
-abbrev pub commandAt : ℕ → Command
-commandAt choice =
+abbrev pub commandChosen : ℕ → Command
+commandChosen choice =
     cond (eqb choice 0) Assign
     (cond (eqb choice 1) ResetAll
     (cond (eqb choice 2) SetFromStatic
@@ -99,15 +109,15 @@ commandAt choice =
     (cond (eqb choice 4) Silence Allow))))
 
 -- what these calls do on an opened machine, behind a joining, for this choice, address asked and new address wanted: the command is sent where the
--- first header (opened, 1) was answered, the new address where the direct header (direct, 5) was
+-- first header was answered, the new address where the direct header was; `last` is what the last round header heard
 abbrev pub done : Joining → ℕ → ℕ → ℕ → List Call → Machine → Reading
 done j choice asked wanted cs m =
     record {
       joining = j;
-      command = cond (heardAt 1 false cs m) (commandAt choice) commands.None;
-      header = cond (heardAt 1 false cs m) asked 0;
-      new = cond (heardAt 5 false cs m) wanted 0;
-      direct = heardAt 5 false cs m;
-      last = heardAt 2 false cs m;
+      command = cond (heardAt Opened false cs m) (commandChosen choice) commands.None;
+      header = cond (heardAt Opened false cs m) asked 0;
+      new = cond (heardAt Direct false cs m) wanted 0;
+      direct = heardAt Direct false cs m;
+      last = heardAt Round false cs m;
       offers = length (offersMade cs m);
     }
