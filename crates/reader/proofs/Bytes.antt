@@ -1,12 +1,12 @@
 -- Laws of the offers' bytes, written one after the other into a lent buffer, and of the whole answer.
 use Prim.Native.Nat.{ℕ, zero, suc, _+_, _*_, _/_, _%_, _<_, _≤_}
-use mathlib.Core.Path.{_≡_, refl, ap, sym, _∙_}
+use mathlib.Core.Path.{_≡_, refl, sym, _∙_}
 use mathlib.Core.List.{List, [], _∷_, _++_, map, append-assoc, append-nil, map-append}
-use native.Mathlib.Nat.{add-zero, add-suc, suc-add, add-assoc}
+use native.Mathlib.Nat.{add-assoc}
 use native.Mathlib.Numerals.{add-one}
 use native.Mathlib.Omega.{arith}
-use lib.ListN.{length, getD, take, drop, set, length-append, length-take, length-drop, length-map, take-append-drop}
-use lib.Seq.{drop-cons, drop-drop, getD-drop, set-at}
+use lib.ListN.{length, drop, set, length-append, length-map, take-append-drop}
+use lib.Seq.{drop-drop, getD-drop}
 use borrow.Author.Tests.{lt-ltb, le-ltb}
 use Rattle.lists.specs.Buffers.{lay, layAt}
 use Rattle.lists.specs.Numbers.{numbers}

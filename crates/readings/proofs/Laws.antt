@@ -1,7 +1,7 @@
 -- Which commands may follow a joining, as the code asks it.
 use Prim.Native.Nat.{ℕ}
-use mathlib.Core.Path.{_≡_, refl, ap, _∙_}
-use mathlib.Core.Bool.{Bool, _||_}
+use mathlib.Core.Path.{_≡_, refl}
+use mathlib.Core.Bool.{_||_}
 use lib.Dec.{eqb}
 use Rattle.readings.specs.declared.Joining.{Joining}
 use Rattle.readings.specs.declared.Joining.the-variants.{Refused, Answered}

@@ -1,7 +1,7 @@
 -- What a record says: joining, command, addresses, whether headers answered, and how many offers.
 use Prim.Native.Nat.{ℕ}
 use mathlib.Core.Bool.{Bool, true, false}
-use mathlib.Core.List.{List, [], _∷_}
+use mathlib.Core.List.{[], _∷_}
 use lib.Dec.{eqb}
 use Rattle.lists.specs.Numbers.{oneOf}
 use Rattle.readings.specs.declared.Joining.{Joining}

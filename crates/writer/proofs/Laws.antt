@@ -2,12 +2,11 @@
 use Prim.Native.Nat.{ℕ, _+_, _<_, _≤_}
 use mathlib.Core.Path.{_≡_, refl, sym, subst, _∙_}
 use mathlib.Core.Bool.{Bool, true, false}
-use mathlib.Core.List.{List, [], _∷_, _++_, append-assoc}
+use mathlib.Core.List.{List, [], _∷_, _++_}
 use native.Mathlib.Nat.{zero-add}
 use native.Mathlib.Numerals.{add-one, add-two, add-three}
 use native.Mathlib.Omega.{arith}
-use lib.ListN.{length, take, drop, set, length-append, length-take, length-drop}
-use lib.Seq.{drop-cons, drop-drop, set-at, sets, sets-eq}
+use lib.ListN.{length, set, length-append}
 use Rattle.lists.specs.Buffers.{lay, layAt}
 use Rattle.lists.proofs.Buffers.{layAt-sets, layAt-on}
 use Rattle.parity.specs.Cells.{dataCell, answerCell, writeByte, startCell}
