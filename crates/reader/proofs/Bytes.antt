@@ -1,15 +1,18 @@
 -- Laws of the offers' bytes, written one after the other into a lent buffer, and of the whole answer.
 use Prim.Native.Nat.{ℕ, zero, suc, _+_, _*_, _/_, _%_, _<_, _≤_}
 use mathlib.Core.Path.{_≡_, refl, sym, _∙_}
+use mathlib.Core.Bool.{false, not}
 use mathlib.Core.List.{List, [], _∷_, _++_, map, append-assoc, append-nil, map-append}
 use native.Mathlib.Nat.{add-assoc}
 use native.Mathlib.Numerals.{add-one}
 use native.Mathlib.Omega.{arith}
+use lib.Dec.{eqb}
 use lib.ListN.{length, drop, set, length-append, length-map, take-append-drop}
 use lib.Seq.{drop-drop, getD-drop}
-use borrow.Author.Tests.{lt-ltb, le-ltb}
+use borrow.Author.Tests.{lt-ltb, le-ltb, ne-eqb}
 use Rattle.lists.specs.Buffers.{lay, layAt}
 use Rattle.lists.specs.Numbers.{numbers}
+use Rattle.lists.proofs.Bools.{cond-by}
 use Rattle.lists.proofs.Buffers.{layAt-one, lay-on, layAt-length, lay-length}
 use Rattle.lists.proofs.Numbers.{numbers-length, numbers-more}
 use Rattle.reader.specs.declared.Answer.{Answer}
@@ -69,7 +72,7 @@ module _ (s : List ℕ) (from at : ℕ) (b₀ : List ℕ) where
 
 -- ---- the offers, ten bytes each
 
-tens-length : (n : ℕ) (cells : List ℕ) → length (tensOf n cells) ≡ 10 * n
+pub tens-length : (n : ℕ) (cells : List ℕ) → length (tensOf n cells) ≡ 10 * n
 unfolding tensOf tenOf numbers
 tens-length zero cells = refl
 tens-length (suc n) cells = omega (arith, tens-length n (drop 11 cells))
@@ -118,23 +121,39 @@ Told s b a b′ = (a ≡ answerTo s (length b)) × (b′ ≡ lay (offersTo s (le
 
 module _ (s b : List ℕ) {a : Answer} where
   -- a refusal writes nothing
-  untouched : (n : ℕ) → a ≡ refused n 0 → answerTo s (length b) ≡ refused n 0 → Told s b a b
-  unfolding offersOf tensOf
-  untouched n h e = (h ∙ sym e, rw e)
+  untouched : a ≡ answerTo s (length b) → eqb (a .refusal) 0 ≡ false → Told s b a b
+  untouched same refusing = (same, rw (← same, refusing))
 
   pub too-long : 1024 < length s → a ≡ refused 13 0 → Told s b a b
   unfolding answerTo
-  too-long h e = untouched 13 e (rw (lt-ltb 1024 (length s) h))
+  too-long h e = untouched (e ∙ rw (lt-ltb 1024 (length s) h)) (rw e)
 
 module _ (s b : List ℕ) (short : length s ≤ 1024) (r : Answer) (read : r ≡ from start s 0) where
-  pub no-room : length b / 10 < r .reading .offers → {a : Answer} → a ≡ refused 15 0 → Told s b a b
+  pub broken : (r .refusal ≡ 0 → ⊥) → Told s b r b
   unfolding answerTo
-  no-room h e = untouched s b 15 e (rw (le-ltb 1024 (length s) short, ← read, lt-ltb (length b) (10 * r .reading .offers) (omega arith)))
+  broken refusing =
+      let e = ne-eqb (r .refusal) 0 refusing in
+      untouched s b (sym (rw (le-ltb 1024 (length s) short, ← read, e))) e
 
-  pub well-read : r .reading .offers ≤ length b / 10 → {at : ℕ} → at ≡ roundsAt (r .reading .joining)
-      → (b′ : List ℕ) → b′ ≡ lay (tensOf (r .reading .offers) (drop at s)) b → Told s b r b′
-  unfolding answerTo offersOf
-  well-read h place b′ e =
-      let fits = le-ltb (length b) (10 * r .reading .offers) (omega arith) in
-      let same : r ≡ answerTo s (length b) = sym (rw (le-ltb 1024 (length s) short, ← read, fits)) in
-      (same, e ∙ rw (← same, place))
+  module _ (right : r .refusal ≡ 0) where
+    pub no-room : length b / 10 < r .reading .offers → {a : Answer} → a ≡ refused 15 0 → Told s b a b
+    unfolding answerTo
+    no-room h e =
+        let little = lt-ltb (length b) (10 * r .reading .offers) (omega arith) in
+        untouched s b (e ∙ rw (le-ltb 1024 (length s) short, ← read, right, little)) (rw e)
+
+    pub well-read : r .reading .offers ≤ length b / 10 → {at : ℕ} → at ≡ roundsAt (r .reading .joining)
+        → (b′ : List ℕ) → b′ ≡ lay (tensOf (r .reading .offers) (drop at s)) b → Told s b r b′
+    unfolding answerTo offersOf
+    well-read h place b′ e =
+        let fits = le-ltb (length b) (10 * r .reading .offers) (omega arith) in
+        let same : r ≡ answerTo s (length b) = sym (rw (le-ltb 1024 (length s) short, ← read, right, fits)) in
+        (same, e ∙ rw (← same, right, place))
+
+-- within the limits the answer is what the cells come to
+pub answer-within : (cells : List ℕ) (room : ℕ) {a : Answer} → from start cells 0 ≡ a → length cells ≤ 1024 → 10 * a .reading .offers ≤ room
+    → answerTo cells room ≡ a
+unfolding answerTo
+answer-within cells room {a} e short fits =
+    rw (le-ltb 1024 (length cells) short, e, le-ltb room (10 * a .reading .offers) fits)
+    (cond-by (λ x. x ≡ a) (not (eqb (a .refusal) 0)) (λ _. refl) (λ _. refl))

@@ -1,3 +1,4 @@
+pub mod Cells
 pub mod Laws
 pub mod Rounds
 pub mod Bytes

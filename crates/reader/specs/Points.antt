@@ -16,15 +16,15 @@ use Rattle.readings.specs.Readings.{mayFollow, bare, directed, assigned}
 
 -- ---- kinds of cells
 
--- of a byte and its ninth bit
+-- the ninth bit of a cell of nine clocks
 abbrev pub ninthOf : ℕ → ℕ
 ninthOf x = x % 2
 
--- the eight bits above the ninth
+-- its byte: the eight bits above the ninth
 abbrev pub byteOf : ℕ → ℕ
 byteOf x = x / 2 % 256
 
--- the seven bits above those two
+-- the address in that byte: its seven higher bits
 abbrev pub addressIn : ℕ → ℕ
 addressIn x = byteOf x / 2
 

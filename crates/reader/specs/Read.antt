@@ -1,8 +1,8 @@
 -- What the reader answers, and what it leaves in the offers buffer.
 use Prim.Native.Nat.{ℕ, zero, suc, _+_, _*_, _%_}
-use mathlib.Core.Bool.{cond}
+use mathlib.Core.Bool.{cond, not}
 use mathlib.Core.List.{List, [], _∷_, _++_, map}
-use lib.Dec.{ltb}
+use lib.Dec.{ltb, eqb}
 use lib.ListN.{length, getD, drop}
 use Rattle.lists.specs.Numbers.{numbers}
 use Rattle.readings.specs.declared.Joining.{Joining}
@@ -80,12 +80,14 @@ offersOf r cells = tensOf (r .offers) (drop (roundsAt (r .joining)) cells)
 
 -- ---- the reader
 
--- 13, 14, 15, in this order, with so many bytes of room in the offers buffer; with 14 there are no offers, so that it stays 14
+-- 13, 14 (what the cells come to), 15, in this order, with so many bytes of room in the offers buffer
 unfoldable pub answerTo : List ℕ → ℕ → Answer
 answerTo cells room =
     cond (ltb 1024 (length cells)) (refused 13 0)
-    (cond (ltb room (10 * from start cells 0 .reading .offers)) (refused 15 0) (from start cells 0))
+    (cond (not (eqb (from start cells 0 .refusal) 0)) (from start cells 0)
+    (cond (ltb room (10 * from start cells 0 .reading .offers)) (refused 15 0)
+    (from start cells 0)))
 
 -- what is written into the offers buffer: after a refusal nothing
 abbrev pub offersTo : List ℕ → ℕ → List ℕ
-offersTo cells room = offersOf (answerTo cells room .reading) cells
+offersTo cells room = cond (eqb (answerTo cells room .refusal) 0) (offersOf (answerTo cells room .reading) cells) []

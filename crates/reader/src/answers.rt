@@ -2,9 +2,9 @@
 ghost use mathlib.Core.Path.{_≡_};
 ghost use Rattle.reader.specs.Read.{says as Read·says, refused as Read·refused, breaks as Read·breaks};
 use crate::Answer;
-use crate::NO_LAYOUT;
 use readings::Command;
 use readings::Joining;
+use readings::NO_LAYOUT;
 use readings::Reading;
 
 // The record says this.

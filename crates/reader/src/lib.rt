@@ -13,20 +13,16 @@ mod offers;
 mod points;
 
 use answers::refused;
+use readings::MOST_CELLS;
 use readings::Reading;
 
-// Refusals: more than 1,024 cells; no layout fits; a buffer shorter than ten bytes an offer.
+// Refusals, beside NO_LAYOUT: more than 1,024 cells; a buffer shorter than ten bytes an offer.
 pub const TOO_LONG: u8 = 13;
-
-pub const NO_LAYOUT: u8 = 14;
 
 pub const NO_ROOM: u8 = 15;
 
-// The longest record.
-pub const MOST_CELLS: usize = 1024;
-
 // What a record says, or a refusal, 0 for none. With NO_LAYOUT, the place of the first cell that can't continue a layout, counted from 0, or the
-// length of a record that breaks off. All else is 0 then.
+// length of a record that breaks off. After a refusal all else is 0.
 pub struct Answer {
     pub reading: Reading,
     pub refusal: u8,
@@ -42,9 +38,13 @@ pub fn read(cells: &[u16], buffer: &mut [u8]) -> Answer
         return refused(TOO_LONG, 0);
     }
     let answer = points::record(cells);
+    if answer.refusal != 0 {
+        return answer;
+    }
     let reading = answer.reading;
     let joining = reading.joining;
     let count = reading.offers;
+    // divided, since ten times the count might not fit
     if buffer.len() / 10 < count {
         return refused(NO_ROOM, 0);
     }

@@ -1,4 +1,5 @@
-// The layouts cell by cell. Each function reads from one point of a record on and says what the whole record says, or where it breaks.
+// The layouts cell by cell. Each function but `cell_at` and `identities` reads from one point of a record on and says what the whole record says, or
+// where it breaks.
 ghost use mathlib.Core.Path.{_≡_};
 ghost use Prim.Native.Nat.{_≤_};
 ghost use mathlib.Core.Bool.{not};

@@ -6,6 +6,12 @@ ghost use mathlib.Core.Path.{_≡_};
 ghost use Rattle.readings.specs.Readings.{joiningNumber, commandNumber, mayFollow};
 ghost use Rattle.readings.specs.Readings.{bare as Readings·bare, directed as Readings·directed, assigned as Readings·assigned};
 
+// The longest record.
+pub const MOST_CELLS: usize = 1024;
+
+// The refusal that reader and writer share: no layout fits.
+pub const NO_LAYOUT: u8 = 14;
+
 // Whether a board asked to join, and what it was told.
 pub enum Joining {
     None,
@@ -65,7 +71,7 @@ impl Command {
     }
 }
 
-// Whether a command may follow a joining.
+// Whether a command may follow a joining: any behind none, none behind a refused one; none (0), assign (1) or silence (5) behind an answered one.
 pub fn may_follow(joining: Joining, command: Command) -> bool
     ensures { λ r. ⌜ r ≡ mayFollow joining command ⌝ }
 {

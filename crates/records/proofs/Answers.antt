@@ -12,24 +12,18 @@ use Rattle.readings.specs.declared.Reading.{Reading}
 use Rattle.reader.specs.declared.Answer.{Answer}
 use Rattle.reader.specs.Points.{start}
 use Rattle.reader.specs.Read.{says, refused, breaks, from, answerTo}
+use Rattle.reader.proofs.Bytes.{answer-within}
 use Rattle.writer.specs.Write.{writable, writeRefusal}
 use Rattle.records.specs.Records.{areBytes, Laid, ReadsAs, FirstBad}
-use Rattle.records.proofs.Trips.{from-either, answer-within, answer-says, laid-accepted, accepted-laid, writable-reads, reads-writable}
+use Rattle.records.proofs.Trips.{from-either, answer-is, answer-says, laid-accepted, accepted-laid, writable-reads, reads-writable}
 use Rattle.records.proofs.Place.{first-bad}
 
 -- ---- the reader
 
--- 14 is neither 13 nor 15
-is-14 : (long short : Bool) (a : Answer) → cond long (refused 13 0) (cond short (refused 15 0) a) .refusal ≡ 14
-    → (cond long (refused 13 0) (cond short (refused 15 0) a) ≡ a) × (a .refusal ≡ 14)
-is-14 true short a h = absurd (omega arith)
-is-14 false true a h = absurd (omega arith)
-is-14 false false a h = (refl, h)
-
 module _ (cells : List ℕ) (room : ℕ) where
   -- a record of at most 1,024 cells is read as what its layout says, if the buffer has room for its offers
   pub accepts : (l : Laid cells) → length cells ≤ 1024 → 10 * l .reading .offers ≤ room → answerTo cells room ≡ says (l .reading)
-  accepts l short fits = let e = laid-accepted l in answer-within cells room short (rw e fits) ∙ e
+  accepts l short fits = answer-within cells room (laid-accepted l) short fits
 
   -- and nothing else is
   pub accepted : answerTo cells room .refusal ≡ 0 → Laid cells × (length cells ≤ 1024)
@@ -39,16 +33,15 @@ module _ (cells : List ℕ) (room : ℕ) where
   pub refuses : length cells ≤ 1024 → (Laid cells → ⊥) → (place : ℕ) × (answerTo cells room ≡ breaks place)
   refuses short none =
       ⊎-elim (λ e. absurd (none (accepted-laid (from start cells 0 .reading) cells e)))
-      (λ e. (from start cells 0 .place, answer-within cells room short (rw e (omega arith)) ∙ e))
+      (λ e. (from start cells 0 .place, answer-within cells room e short (omega arith)))
       (from-either cells start 0)
 
   -- and the place of 14 is that of the first cell that no layout can continue, or the length
   pub refused-at : answerTo cells room .refusal ≡ 14 → FirstBad cells (answerTo cells room .place)
-  unfolding answerTo
   refused-at h =
-      let t = is-14 (ltb 1024 (length cells)) (ltb room (10 * from start cells 0 .reading .offers)) (from start cells 0) h in
-      ⊎-elim (λ e. absurd (omega (arith, t .1, ap (λ (a : Answer). a .refusal) e)))
-      (λ e. rw (t .0) (first-bad cells (from start cells 0 .place) e))
+      let t = answer-is cells room (λ e. absurd (omega arith)) (λ e. absurd (omega arith)) in
+      ⊎-elim (λ e. absurd (omega (arith, h, ap (λ (a : Answer). a .refusal) (t .1 ∙ e))))
+      (λ e. rw (t .1) (first-bad cells (from start cells 0 .place) e))
       (from-either cells start 0)
 
 -- ---- the writer

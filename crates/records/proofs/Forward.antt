@@ -1,6 +1,6 @@
 -- From the layouts to the reader: the record of a reading with its bytes reads as this reading, with these bytes; and bytes behind the last offer
 -- don't matter.
-use Prim.Native.Nat.{ℕ, zero, suc, _+_, _*_, _%_, _≤_, _<_, min}
+use Prim.Native.Nat.{ℕ, zero, suc, _+_, _*_, _≤_, _<_, min}
 use mathlib.Core.Path.{_≡_, refl, sym, ap, _∙_, subst}
 use mathlib.Core.Bool.{Bool, true, false, cond, not, _&&_, and-eq-true-iff, false≢true}
 use mathlib.Core.List.{List, [], _∷_, _++_}
@@ -10,13 +10,12 @@ use lib.Count.{onesIn}
 use lib.Dec.{eqb, leb}
 use lib.ListN.{length, getD, take, drop, length-take, length-drop}
 use lib.Seq.{getD-take, take-take, take-add, take-nil}
-use borrow.Author.Tests.{eqb-true, leb-true, le-leb, eq-eqb, lt-ltb, not-true}
+use borrow.Author.Tests.{eqb-true, leb-true, le-leb, not-true}
 use Rattle.lists.specs.Numbers.{numbers}
 use Rattle.lists.proofs.Keeps.{all-drop}
 use Rattle.lists.proofs.Bools.{both, and, agree}
 use Rattle.parity.specs.Parity.{parity, oddBit, oddOnes}
-use Rattle.parity.specs.Cells.{cell, isByte, isIdentity, identityCell, answerCell, dataCell, writeByte}
-use Rattle.parity.proofs.Laws.{odd-bit-lt}
+use Rattle.parity.specs.Cells.{answerCell}
 use Rattle.readings.specs.declared.Joining.{Joining}
 use Rattle.readings.specs.declared.Joining.the-variants.{Refused, Answered}
 use Rattle.readings.specs.declared.Joining.the-variants as joinings
@@ -26,8 +25,10 @@ use Rattle.readings.specs.declared.Command.the-variants as commands
 use Rattle.readings.specs.declared.Reading.{Reading}
 use Rattle.readings.specs.Readings.{mayFollow, bare, directed, assigned}
 use Rattle.readings.specs.Layouts.{offerCells, offersCells, roundsEnd, directCells, commandCells, joiningCells, cellsOf, isBare, isDirected, isAssigned, offersRight, saysRight, hasLayout}
-use Rattle.reader.specs.Points.{start, again, round, behind, header, byteOf, ninthOf, addressIn, isWriteByte, isNewAddress, isOffered, commandOf, next}
-use Rattle.reader.specs.Read.{says, stopped, from, tenOf, tensOf, identityByte, roundsAt, offersOf}
+use Rattle.reader.specs.Points.{start, again, round, behind, header, byteOf, ninthOf, isWriteByte, isOffered, commandOf, next}
+use Rattle.reader.specs.Read.{says, stopped, from, tenOf, tensOf, roundsAt, offersOf}
+use Rattle.reader.proofs.Cells.{pair-byte, pair-ninth, pair-is-byte, identity-taken, identity-back, write-ninth, write-taken, write-address, new-taken, new-back}
+use Rattle.reader.proofs.Bytes.{tens-length}
 use Rattle.records.specs.Records.{areBytes, ReadsAs}
 
 -- ---- the bytes behind the last offer don't matter
@@ -103,40 +104,14 @@ module _ (r : Reading) (bytes : List ℕ) where
   unfolding hasLayout
   layout-prefix = ap (λ (b : Bool). mayFollow (r .joining) (r .command) && b) (says-right-cut (r .command))
 
--- ---- how many bytes are read
-
--- ten for each offer, whatever the cells are
-pub tens-length : (n : ℕ) (cells : List ℕ) → length (tensOf n cells) ≡ 10 * n
-unfolding tensOf tenOf numbers
-tens-length zero cells = refl
-tens-length (suc n) cells = omega (arith, tens-length n (drop 11 cells))
+-- ---- how many bytes are read: ten for each offer, whatever the cells are
 
 pub offers-length : (r : Reading) (cells : List ℕ) → length (offersOf r cells) ≡ 10 * r .offers
 unfolding offersOf
 offers-length r cells = tens-length (r .offers) (drop (roundsAt (r .joining)) cells)
 
--- ---- cells that are made are taken
+-- ---- an offered byte, with 0 or 1 for accepted or refused
 
--- a byte and its ninth bit, taken apart again
-module _ (byte ninth : ℕ) (b : byte ≤ 255) (n : ninth ≤ 1) where
-  pair-byte : byteOf (cell byte ninth) ≡ byte
-  pair-byte = omega arith
-
-  pair-ninth : ninthOf (cell byte ninth) ≡ ninth
-  pair-ninth = omega arith
-
-  pair-is-byte : isByte (cell byte ninth) ≡ true
-  pair-is-byte = lt-ltb (cell byte ninth) 512 (omega arith)
-
--- an identity byte
-identity-taken : (byte : ℕ) → leb byte 255 ≡ true → isIdentity (identityCell byte) ≡ true
-unfolding isIdentity
-identity-taken byte h = and (le-leb 1024 (1024 + byte) (omega arith)) (le-leb (1024 + byte) 1279 (omega (arith, leb-true byte 255 h)))
-
-identity-back : (byte : ℕ) → leb byte 255 ≡ true → identityByte (identityCell byte) ≡ byte
-identity-back byte h = omega (arith, leb-true byte 255 h)
-
--- an offered byte, with 0 or 1 for accepted or refused
 ninth-back : (mark : ℕ) → leb mark 1 ≡ true → cond (eqb mark 0) 0 1 ≡ mark
 ninth-back zero h = refl
 ninth-back (suc zero) h = refl
@@ -152,35 +127,6 @@ module _ (byte mark : ℕ) (b : leb byte 255 ≡ true) (m : leb mark 1 ≡ true)
   offer-taken : oddOnes byte ≡ true → isOffered (answerCell byte (eqb mark 0)) ≡ true
   unfolding isOffered
   offer-taken o = rw offer-byte (rw (ninth-back mark m) (and (pair-is-byte byte mark (leb-true byte 255 b) (leb-true mark 1 m)) o))
-
--- an address with a 0 below, and any ninth bit
-module _ (address ninth : ℕ) (a : address ≤ 127) (n : ninth ≤ 1) where
-  write-byte : byteOf (cell (writeByte address) ninth) ≡ writeByte address
-  write-byte = pair-byte (writeByte address) ninth (omega arith) n
-
-  write-ninth : ninthOf (cell (writeByte address) ninth) ≡ ninth
-  write-ninth = pair-ninth (writeByte address) ninth (omega arith) n
-
-  write-taken : isWriteByte (cell (writeByte address) ninth) ≡ true
-  unfolding isWriteByte
-  write-taken =
-      let even : writeByte address % 2 ≡ 0 = omega arith in
-      rw write-byte (and (pair-is-byte (writeByte address) ninth (omega arith) n) (eq-eqb (writeByte address % 2) 0 even))
-
-  write-address : addressIn (cell (writeByte address) ninth) ≡ address
-  write-address = rw write-byte (omega arith)
-
--- a new address
-new-taken : (address : ℕ) → address ≤ 127 → isNewAddress (dataCell (writeByte address)) ≡ true
-unfolding isNewAddress
-new-taken address a =
-    let ninth : ℕ = oddBit 8 (writeByte address) in
-    let n : ninth ≤ 1 = omega (arith, odd-bit-lt 8 (writeByte address)) in
-    let same : dataCell (byteOf (dataCell (writeByte address))) ≡ dataCell (writeByte address) = ap dataCell (write-byte address ninth a n) in
-    and (write-taken address ninth a n) (eq-eqb (dataCell (byteOf (dataCell (writeByte address)))) (dataCell (writeByte address)) same)
-
-new-back : (address : ℕ) → address ≤ 127 → addressIn (dataCell (writeByte address)) ≡ address
-new-back address a = write-address address (oddBit 8 (writeByte address)) a (omega (arith, odd-bit-lt 8 (writeByte address)))
 
 -- ---- the rounds
 

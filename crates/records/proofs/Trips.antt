@@ -2,11 +2,11 @@
 -- the writer writes exactly what can be read, and a reading with its bytes has one record.
 use Prim.Native.Nat.{ℕ, _+_, _*_, _≤_}
 use mathlib.Core.Path.{_≡_, refl, sym, ap, _∙_}
-use mathlib.Core.Bool.{Bool, true, false, cond}
+use mathlib.Core.Bool.{Bool, true, false, cond, not}
 use mathlib.Core.List.{List, [], _∷_}
 use mathlib.Core.Logic.{_⊎_, inl, inr, ⊎-elim}
 use native.Mathlib.Omega.{arith}
-use lib.Dec.{leb, ltb}
+use lib.Dec.{eqb, leb, ltb}
 use lib.ListN.{length, take, drop}
 use lib.Seq.{take-at}
 use borrow.Author.Tests.{leb-true, le-leb, le-ltb, ltb-false}
@@ -17,6 +17,7 @@ use Rattle.readings.specs.Layouts.{cellsOf, hasLayout}
 use Rattle.reader.specs.declared.Answer.{Answer}
 use Rattle.reader.specs.Points.{Point, Next, nowhere, to, over, start, next}
 use Rattle.reader.specs.Read.{says, refused, breaks, stopped, lead, from, offersOf, answerTo, offersTo}
+use Rattle.reader.proofs.Bytes.{answer-within}
 use Rattle.writer.specs.Write.{writable, writeRefusal, toWrite}
 use Rattle.records.specs.Records.{areBytes, Laid, ReadsAs}
 use Rattle.records.proofs.Inverse.{read-layout}
@@ -25,7 +26,7 @@ use Rattle.records.proofs.Forward.{cells-prefix, layout-prefix, offers-
 -- ---- what the reader answers
 
 -- a reading, or a place where the cells break
-abbrev pub Either : Answer → Type 0
+abbrev Either : Answer → Type 0
 Either a = (a ≡ says (a .reading)) ⊎ (a ≡ breaks (a .place))
 
 stopped-either : (r : Reading) (cells : List ℕ) (at : ℕ) → Either (stopped r cells at)
@@ -49,25 +50,29 @@ from-either (x ∷ cells) p at =
 from-says : (cells : List ℕ) → from start cells 0 .refusal ≡ 0 → from start cells 0 ≡ says (from start cells 0 .reading)
 from-says cells h = ⊎-elim (λ e. e) (λ e. absurd (omega (arith, h, ap (λ (a : Answer). a .refusal) e))) (from-either cells start 0)
 
--- neither 13 nor 15 nor what the cells are refused with
-not-refusing : (long short : Bool) (a : Answer) → cond long (refused 13 0) (cond short (refused 15 0) a) .refusal ≡ 0
-    → (long ≡ false) × (short ≡ false) × (a .refusal ≡ 0)
-not-refusing true short a h = absurd (omega arith)
-not-refusing false true a h = absurd (omega arith)
-not-refusing false false a h = (refl, refl, h)
-
+-- an answer that is neither 13 nor 15 is what at most 1,024 cells come to
 module _ (cells : List ℕ) (room : ℕ) where
-  -- within the limits the answer is what the cells say
-  pub answer-within : length cells ≤ 1024 → 10 * from start cells 0 .reading .offers ≤ room → answerTo cells room ≡ from start cells 0
+  pub answer-is : (answerTo cells room .refusal ≡ 13 → ⊥) → (answerTo cells room .refusal ≡ 15 → ⊥)
+      → (length cells ≤ 1024) × (answerTo cells room ≡ from start cells 0)
   unfolding answerTo
-  answer-within l o = rw (le-ltb 1024 (length cells) l, le-ltb room (10 * from start cells 0 .reading .offers) o)
+  answer-is f g =
+      let a : Answer = from start cells 0 in
+      let t = go (ltb 1024 (length cells)) (not (eqb (a .refusal) 0)) (ltb room (10 * a .reading .offers)) a f g in
+      (ltb-false 1024 (length cells) (t .0), t .1)
+    where
+      go : (long broken little : Bool) (a : Answer)
+          → (cond long (refused 13 0) (cond broken a (cond little (refused 15 0) a)) .refusal ≡ 13 → ⊥)
+          → (cond long (refused 13 0) (cond broken a (cond little (refused 15 0) a)) .refusal ≡ 15 → ⊥)
+          → (long ≡ false) × (cond long (refused 13 0) (cond broken a (cond little (refused 15 0) a)) ≡ a)
+      go true broken little a f g = absurd (f refl)
+      go false true little a f g = (refl, refl)
+      go false false true a f g = absurd (g refl)
+      go false false false a f g = (refl, refl)
 
-  -- an answer that refuses nothing is what at most 1,024 cells say
   pub answer-says : answerTo cells room .refusal ≡ 0 → (length cells ≤ 1024) × (from start cells 0 ≡ says (answerTo cells room .reading))
-  unfolding answerTo
   answer-says h =
-      let t = not-refusing (ltb 1024 (length cells)) (ltb room (10 * from start cells 0 .reading .offers)) (from start cells 0) h in
-      rw (t .0, t .1) (ltb-false 1024 (length cells) (t .0), from-says cells (t .2))
+      let t = answer-is (λ e. absurd (omega arith)) (λ e. absurd (omega arith)) in
+      (t .0, rw (t .1) (from-says cells (rw (t .1) at h)))
 
 -- ---- where the writer refuses nothing
 
@@ -144,8 +149,7 @@ pub read-what-was-written : (r : Reading) (bytes : List ℕ) (room : ℕ) (buffe
 read-what-was-written r bytes room buffer small h fits =
     let t = writable-says r bytes (unrefused-says r bytes room h) in
     let w = layout-reads r bytes small (t .0) in
-    let enough : 10 * from start (cellsOf r bytes) 0 .reading .offers ≤ length buffer = rw (w .reads) fits in
-    let answer = answer-within (cellsOf r bytes) (length buffer) (t .1) enough ∙ w .reads in
+    let answer = answer-within (cellsOf r bytes) (length buffer) (w .reads) (t .1) fits in
     rw (unrefused-cells r bytes room h, answer) (refl, w .tells)
 
 -- ---- what was read is written again, from the very buffer that it was read into: no refusal, the same cells
@@ -162,4 +166,4 @@ write-what-was-read cells buffer room h l =
     let first : take (10 * r .offers) after ≡ told = take-at told (drop (length told) buffer) (10 * r .offers) (offers-length r cells) in
     let w : ReadsAs r after cells = record { reads = t .1; tells = sym first } in
     let none : writeRefusal r after room ≡ 0 = unrefused-where r after room l (reads-writable r after cells (t .0) w) in
-    (none, unrefused-cells r after room none ∙ reads-layout w .1)
+    rw h (none, unrefused-cells r after room none ∙ reads-layout w .1)

@@ -4,19 +4,18 @@ use mathlib.Core.Path.{_≡_, refl, sym, ap, _∙_}
 use mathlib.Core.Bool.{Bool, true, false, cond}
 use mathlib.Core.List.{List, [], _∷_, _++_, map, append-nil, append-assoc}
 use native.Mathlib.Omega.{arith}
-use native.Mathlib.Nat.{mod-eq-of-lt}
 use lib.Dec.{eqb, leb}
 use lib.ListN.{length, drop, length-map}
 use lib.Seq.{getD-append-seam, drop-append-add}
-use borrow.Author.Tests.{leb-true, eq-eqb, lt-ltb, le-leb}
+use borrow.Author.Tests.{leb-true}
 use Rattle.lists.specs.Numbers.{numbers}
 use Rattle.lists.proofs.Bools.{both, and}
-use Rattle.parity.specs.Parity.{oddBit}
-use Rattle.parity.specs.Cells.{isIdentity, dataCell, answerCell, identityCell, writeByte, offeredByte}
+use Rattle.parity.specs.Cells.{answerCell, identityCell, writeByte, offeredByte}
 use Rattle.parity.proofs.Laws.{odd-bit-lt, offer-taken}
 use Rattle.machine.specs.Steps.{digits, identityOf}
-use Rattle.reader.specs.Points.{ninthOf, byteOf, addressIn, answeredIn, isWriteByte, isNewAddress, isOffered}
+use Rattle.reader.specs.Points.{ninthOf, byteOf, addressIn, answeredIn, isWriteByte, isOffered}
 use Rattle.reader.specs.Read.{cellAt, identityByte, tenOf, tensOf}
+use Rattle.reader.proofs.Cells.{pair-byte, pair-ninth, pair-is-byte, identity-back, write-taken, write-address}
 use Rattle.records.specs.Records.{areBytes}
 use Rattle.told.specs.Told.{bytesOf}
 
@@ -43,10 +42,6 @@ bytes-back bytes long h = bytes-behind bytes 0 0 8 h (omega arith)
 
 -- ---- the ten bytes of an offer
 
--- a byte is found in its identity cell
-byte-found : (b : ℕ) → b ≤ 255 → identityByte (identityCell b) ≡ b
-byte-found b h = omega arith
-
 -- one cell more in front, one place on
 bytes-later : (x : ℕ) (l : List ℕ) (a k : ℕ)
     → map (λ place. identityByte (cellAt (x ∷ l) place)) (numbers (suc a) k) ≡ map (λ place. identityByte (cellAt l place)) (numbers a k)
@@ -61,11 +56,11 @@ unfolding numbers
 bytes-found [] rest h = refl
 bytes-found (b ∷ bs) rest h =
     let t = both (leb b 255) (areBytes bs) h in
-    rw (byte-found b (leb-true b 255 (t .0)), bytes-later (identityCell b) (map identityCell bs ++ rest) 0 (length bs))
+    rw (identity-back b (t .0), bytes-later (identityCell b) (map identityCell bs ++ rest) 0 (length bs))
     (ap {B = List ℕ} (λ l. b ∷ l) (bytes-found bs rest (t .1)))
 
 -- the cells of one round and of those behind it: round header, eight identity bytes, address byte, 513 or 514
-abbrev pub roundCells : ℕ → List ℕ → ℕ → ℕ → List ℕ → List ℕ
+abbrev roundCells : ℕ → List ℕ → ℕ → ℕ → List ℕ → List ℕ
 roundCells header bytes address last rest = header ∷ (map identityCell bytes ++ (address ∷ last ∷ rest))
 
 module _ (header : ℕ) (bytes : List ℕ) (address last : ℕ) (rest : List ℕ) (long : length bytes ≡ 8) (h : areBytes bytes ≡ true) where
@@ -89,11 +84,6 @@ module _ (header : ℕ) (bytes : List ℕ) (address last : ℕ) (rest : List ℕ
 
 -- ---- cells that fit
 
--- an identity byte's does
-pub identity-fits : (b : ℕ) → b ≤ 255 → isIdentity (identityCell b) ≡ true
-unfolding isIdentity
-identity-fits b h = and (le-leb 1024 (1024 + b) (omega arith)) (le-leb (1024 + b) 1279 (omega arith))
-
 -- the ninth bit, by whether it was answered
 abbrev pub ninth : Bool → ℕ
 ninth answered = cond answered 0 1
@@ -108,48 +98,24 @@ ninth-told : (answered : Bool) → eqb (ninth answered) 0 ≡ answered
 ninth-told true = refl
 ninth-told false = refl
 
--- a byte and a bit behind it are taken apart again
-byte-told : (byte b : ℕ) → byte ≤ 255 → b ≤ 1 → (byteOf (byte * 2 + b) ≡ byte) × (ninthOf (byte * 2 + b) ≡ b)
-byte-told byte b h i = omega arith
-
 module _ (byte : ℕ) (answered : Bool) (h : byte ≤ 255) where
-  -- so is the cell of a header or an offered address
+  -- the cell of a header or an offered address is taken apart again
   pub byte-answered : byteOf (answerCell byte answered) ≡ byte
-  byte-answered = byte-told byte (ninth answered) h (ninth-lt answered) .0
+  byte-answered = pair-byte byte (ninth answered) h (ninth-lt answered)
 
   pub ninth-answered : ninthOf (answerCell byte answered) ≡ ninth answered
-  ninth-answered = byte-told byte (ninth answered) h (ninth-lt answered) .1
+  ninth-answered = pair-ninth byte (ninth answered) h (ninth-lt answered)
 
 -- a header that writes to an address, and whether it was answered
-module _ (a : ℕ) (h : a ≤ 127) where
-  write-byte : writeByte a ≡ a * 2 + 0
-  write-byte = ap (λ (k : ℕ). k * 2 + 0) (mod-eq-of-lt (omega arith))
+module _ (a : ℕ) (h : a ≤ 127) (answered : Bool) where
+  pub header-fits : isWriteByte (answerCell (writeByte a) answered) ≡ true
+  header-fits = write-taken a (ninth answered) h (ninth-lt answered)
 
-  write-told : (b : ℕ) → b ≤ 1 → (isWriteByte (writeByte a * 2 + b) ≡ true) × (addressIn (writeByte a * 2 + b) ≡ a)
-  unfolding isWriteByte
-  write-told b i =
-      let x = (a * 2 + 0) * 2 + b in
-      rw write-byte (and (lt-ltb x 512 (omega arith)) (eq-eqb (byteOf x % 2) 0 (omega arith)), omega arith)
+  pub header-address : addressIn (answerCell (writeByte a) answered) ≡ a
+  header-address = write-address a (ninth answered) h (ninth-lt answered)
 
-  pub header-fits : (answered : Bool) → isWriteByte (answerCell (writeByte a) answered) ≡ true
-  header-fits answered = write-told (ninth answered) (ninth-lt answered) .0
-
-  pub header-address : (answered : Bool) → addressIn (answerCell (writeByte a) answered) ≡ a
-  header-address answered = write-told (ninth answered) (ninth-lt answered) .1
-
-  pub header-answered : (answered : Bool) → answeredIn (answerCell (writeByte a) answered) ≡ answered
-  header-answered answered = rw (ninth-answered (writeByte a) answered (omega arith)) (ninth-told answered)
-
-  -- a new address, as data
-  pub new-fits : isNewAddress (dataCell (writeByte a)) ≡ true
-  unfolding isNewAddress
-  new-fits =
-      let b : oddBit 8 (writeByte a) ≤ 1 = omega (arith, odd-bit-lt 8 (writeByte a)) in
-      let same = byte-told (writeByte a) (oddBit 8 (writeByte a)) (omega arith) b .0 in
-      and (write-told (oddBit 8 (writeByte a)) b .0) (eq-eqb _ _ (ap dataCell same))
-
-  pub new-address : addressIn (dataCell (writeByte a)) ≡ a
-  new-address = write-told (oddBit 8 (writeByte a)) (omega (arith, odd-bit-lt 8 (writeByte a))) .1
+  pub header-answered : answeredIn (answerCell (writeByte a) answered) ≡ answered
+  header-answered = rw (ninth-answered (writeByte a) answered (omega arith)) (ninth-told answered)
 
 -- an offered address
 pub offered-small : (a : ℕ) → offeredByte a ≤ 255
@@ -158,5 +124,5 @@ offered-small a = omega (arith, odd-bit-lt 7 a)
 pub offered-fits : (a : ℕ) (answered : Bool) → isOffered (answerCell (offeredByte a) answered) ≡ true
 unfolding isOffered
 offered-fits a answered =
-    and (lt-ltb (answerCell (offeredByte a) answered) 512 (omega (arith, offered-small a, ninth-lt answered)))
+    and (pair-is-byte (offeredByte a) (ninth answered) (offered-small a) (ninth-lt answered))
     (rw (byte-answered (offeredByte a) answered (offered-small a)) (offer-taken a))

@@ -8,7 +8,6 @@ use native.Mathlib.Nat.{add-zero}
 use native.Mathlib.Omega.{arith}
 use lib.Dec.{eqb, leb}
 use lib.ListN.{length, length-map}
-use borrow.Author.Tests.{leb-true}
 use Rattle.lists.proofs.Bools.{both, cond-by}
 use Rattle.parity.specs.Cells.{dataCell, answerCell, identityCell, writeByte, offeredByte, stopCell, broadcastRead}
 use Rattle.slots.specs.declared.Facts.{Facts}
@@ -27,7 +26,8 @@ use Rattle.machine.specs.Moments as moments
 use Rattle.machine.specs.Steps.{did, identityOf, onward, onwardCell, roundRule, roundAnswer, listened, acceptedRows, accepted, declined, offeredAnswer, directAnswer}
 use Rattle.machine.specs.Steps as steps
 use Rattle.told.specs.Told.{Offer, bytesOf, tenEach, commandChosen}
-use Rattle.told.proofs.Bytes.{bytes-back, round-read, identity-fits, byte-answered, ninth-answered, header-fits, header-address, header-answered, new-fits, new-address, offered-small, offered-fits}
+use Rattle.reader.proofs.Cells.{identity-taken, new-taken, new-back}
+use Rattle.told.proofs.Bytes.{bytes-back, round-read, byte-answered, ninth-answered, header-fits, header-address, header-answered, offered-small, offered-fits}
 use Rattle.told.proofs.Stands.{none-left, joiningOf, at-direct, at-round, at-listening, at-offered, at-idle, hearing, said, Leads}
 
 -- ---- the cells
@@ -44,7 +44,7 @@ header-heard : (c : Command) (a b : ℕ) (xs : List ℕ) (at : ℕ) → a ≤ 12
     → from (header c) (answerCell (writeByte a) true ∷ dataCell (writeByte b) ∷ stopCell ∷ xs) at ≡ stopped (directed c a b true) xs (at + 3)
 unfolding from next
 header-heard c a b xs at h i =
-    rw (header-fits a h true, header-answered a h true, header-address a h true, new-fits b i, new-address b i)
+    rw (header-fits a h true, header-answered a h true, header-address a h true, new-taken b i, new-back b i)
     (ap (stopped (directed c a b true) xs) (omega arith))
 
 module _ (j : Joining) (n : ℕ) where
@@ -65,7 +65,7 @@ module _ (j : Joining) (n : ℕ) where
   bytes-heard [] xs at h = ap (from (offer j n 0) xs) (omega arith)
   bytes-heard (b ∷ bs) xs at h =
       let t = both (leb b 255) (areBytes bs) h in
-      rw (identity-fits b (leb-true b 255 (t .0))) (bytes-heard bs xs (at + 1) (t .1) ∙ ap (from (offer j n 0) xs) (omega arith))
+      rw (identity-taken b (t .0)) (bytes-heard bs xs (at + 1) (t .1) ∙ ap (from (offer j n 0) xs) (omega arith))
 
   -- an offered address, and 513 or 514
   offered-on : (a : ℕ) (heard : Bool) (xs : List ℕ) (at : ℕ)

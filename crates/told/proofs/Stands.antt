@@ -176,7 +176,7 @@ takes-none true taken heard h = h
 takes-none false taken heard h = refl
 
 -- the offers with the one that this step makes
-abbrev pub offersWith : Machine → Step → Option Bool → List Offer → List Offer
+abbrev offersWith : Machine → Step → Option Bool → List Offer → List Offer
 offersWith m s heard os = offerOf m (takes Offered m s heard) ++ os
 
 -- what was heard, behind this step too

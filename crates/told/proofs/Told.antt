@@ -7,7 +7,7 @@ use native.Mathlib.Nat.{zero-add}
 use native.Mathlib.Omega.{arith}
 use lib.Dec.{eqb}
 use lib.ListN.{length, drop, length-append}
-use borrow.Author.Tests.{eqb-true, eqb-false, le-ltb}
+use borrow.Author.Tests.{eqb-true, eqb-false}
 use Rattle.lists.proofs.Bools.{both, cond-by, not-refused}
 use Rattle.parity.specs.Cells.{isIdentity, startCell, repeatedStartCell, stopCell, hotJoin}
 use Rattle.slots.specs.declared.Facts.{Facts}
@@ -17,7 +17,6 @@ use Rattle.readings.specs.declared.Joining.the-variants as joinings
 use Rattle.readings.specs.declared.Command.the-variants as commands
 use Rattle.readings.specs.declared.Reading.{Reading}
 use Rattle.readings.specs.Readings.{commandNumber, mayFollow, bare}
-use Rattle.reader.specs.declared.Answer.{Answer}
 use Rattle.reader.specs.Points.{start, next, isWriteByte, isOffered}
 use Rattle.reader.specs.Read.{says, breaks, stopped, from, tensOf, roundsAt, offersOf, answerTo, offersTo}
 use Rattle.machine.specs.declared.Machine.{Machine}
@@ -28,6 +27,7 @@ use Rattle.machine.specs.Calls.{begun, givenUp, joined}
 use Rattle.life.specs.Life.{Call, begin, join, stepOf, after, afterAll}
 use Rattle.life.proofs.Given.{stepping, refusing, steps-unless}
 use Rattle.told.specs.Told.{goOn, cellsOver, offersMade, tenEach, commandChosen, done}
+use Rattle.reader.proofs.Bytes.{answer-within}
 use Rattle.told.proofs.Stands.{carriesOn, goes-or-refused, reads, joiningOf, openingOf, Stand, at-opened, at-direct, at-round, at-listening, at-offered, at-idle, machineAt, soFar, hearing, said, readerAt}
 use Rattle.told.proofs.Runs.{soOver, runs}
 
@@ -195,16 +195,10 @@ module _ (m : Machine) where
 
 -- ---- the reader's answer
 
--- of at most 1,024 cells, with room for their offers, it is what they say
-answer-told : (cells : List ℕ) (space : ℕ) {a : Answer} → from start cells 0 ≡ a → length cells ≤ 1024 → 10 * a .reading .offers ≤ space
-    → answerTo cells space ≡ a
-unfolding answerTo
-answer-told cells space {a} e fits room = rw (le-ltb 1024 (length cells) fits, e, le-ltb space (10 * a .reading .offers) room)
-
--- and their offers are written
-pub read-told : (cells : List ℕ) (space : ℕ) {r : Reading} {bytes : List ℕ} → (from start cells 0 ≡ says r) × (offersOf r cells ≡ bytes)
+-- at most 1,024 cells, with room for their offers: the answer is what they say, and their offers are written
+read-told : (cells : List ℕ) (space : ℕ) {r : Reading} {bytes : List ℕ} → (from start cells 0 ≡ says r) × (offersOf r cells ≡ bytes)
     → length cells ≤ 1024 → 10 * r .offers ≤ space → (answerTo cells space ≡ says r) × (offersTo cells space ≡ bytes)
-read-told cells space t fits room = let a = answer-told cells space (t .0) fits room in (a, rw a (t .1))
+read-told cells space t fits room = let a = answer-within cells space (t .0) fits room in (a, rw a (t .1))
 
 -- ---- a Begin
 
@@ -248,7 +242,7 @@ module _ (m : Machine) (choice static new ticket room : ℕ) (cs : List Call) (t
     pub begun-given-up-read : let cells = cellsOver (begin choice static new ticket room ∷ cs) m in
         let stop = givenUp (afterAll cs (after (begin choice static new ticket room) m)) room′ .cells in
         (space : ℕ) → length (cells ++ stop) ≤ 1024 → answerTo (cells ++ stop) space ≡ breaks (length cells)
-    begun-given-up-read space fits = answer-told _ space begun-given-up fits (omega arith)
+    begun-given-up-read space fits = answer-within _ space begun-given-up fits (omega arith)
 
 -- ---- a Join
 
@@ -298,7 +292,7 @@ module _ (m : Machine) (choice room : ℕ) (cs : List Call) (taken : joined m ch
     pub joined-given-up-read : let cells = cellsOver (join choice room ∷ cs) m in
         let stop = givenUp (afterAll cs (after (join choice room) m)) room′ .cells in
         (space : ℕ) → length (cells ++ stop) ≤ 1024 → answerTo (cells ++ stop) space ≡ breaks (length cells)
-    joined-given-up-read space fits = answer-told _ space joined-given-up fits (omega arith)
+    joined-given-up-read space fits = answer-within _ space joined-given-up fits (omega arith)
 
 module _ (m : Machine) (room : ℕ) (cs : List Call) (taken : joined m 0 room .refusal ≡ 0) (goes : goOn cs (after (join 0 room) m) ≡ true) where
   -- a Join with choice 0, which refuses the joining: the record says so, and nothing follows

@@ -11,11 +11,10 @@ use lib.ListN.{length, getD, take, drop, set, length-append, length-map, length-
 use lib.Seq.{drop-drop, getD-drop, take-suc}
 use borrow.Author.Tests.{le-leb, lt-leb}
 use Rattle.lists.specs.Buffers.{layAt}
-use Rattle.lists.proofs.Buffers.{layAt-on, layAt-length}
+use Rattle.lists.proofs.Buffers.{layAt-on, layAt-one, layAt-length}
 use Rattle.parity.specs.Parity.{oddOnes}
 use Rattle.parity.specs.Cells.{answerCell, identityCell}
 use Rattle.readings.specs.Layouts.{offerCells, offersCells, offersRight}
-use Rattle.lists.proofs.Buffers.{layAt-one}
 use Rattle.writer.proofs.Laws.{Puts, store-two}
 
 -- ---- right bytes

@@ -20,7 +20,7 @@ use Rattle.readings.specs.Readings.{commandNumber, mayFollow}
 use Rattle.readings.specs.Layouts.{roundsEnd, directCells, commandCells, joiningCells, cellsOf}
 use Rattle.readings.specs.Layouts.{isBare, isDirected, isAssigned, offersRight, saysRight, hasLayout}
 use Rattle.writer.specs.declared.Written.{Written}
-use Rattle.writer.specs.Write.{writable, writeRefusal, toWrite, written}
+use Rattle.writer.specs.Write.{writable, writeRefusal, toWrite, writeAnswer}
 use Rattle.writer.proofs.Offers.{offers-length}
 
 -- ---- an assign's tests, one after the other
@@ -190,13 +190,13 @@ module _ (r : Reading) (bytes buffer : List ℕ) where
   -- after a refusal nothing is written
   pub not-written : {k : ℕ} → writeRefusal r bytes (length buffer) ≡ k → eqb k 0 ≡ false
       → {w : Written} → w ≡ record { count = 0; refusal = k; place = 0 }
-      → (w ≡ written r bytes (length buffer)) × (buffer ≡ lay (toWrite r bytes (length buffer)) buffer)
+      → (w ≡ writeAnswer r bytes (length buffer)) × (buffer ≡ lay (toWrite r bytes (length buffer)) buffer)
   unfolding toWrite
   not-written e n p = rw (e, n) (p, refl)
 
   -- else the whole record is
   pub all-written : 1024 ≤ length buffer → writable r bytes ≡ true
       → {n : ℕ} {after : List ℕ} → (n ≡ length (cellsOf r bytes)) × (after ≡ lay (cellsOf r bytes) buffer)
-      → (record { count = n; refusal = 0; place = 0 } ≡ written r bytes (length buffer)) × (after ≡ lay (toWrite r bytes (length buffer)) buffer)
+      → (record { count = n; refusal = 0; place = 0 } ≡ writeAnswer r bytes (length buffer)) × (after ≡ lay (toWrite r bytes (length buffer)) buffer)
   unfolding toWrite
   all-written h e (p, q) = rw (accepted h e, p) (refl, q)

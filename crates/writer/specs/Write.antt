@@ -21,5 +21,5 @@ unfoldable pub toWrite : Reading → List ℕ → ℕ → List ℕ
 toWrite r bytes room = cond (eqb (writeRefusal r bytes room) 0) (cellsOf r bytes) []
 
 -- the answer: how many cells were written, the refusal, and its place, 0
-abbrev pub written : Reading → List ℕ → ℕ → Written
-written r bytes room = record { count = length (toWrite r bytes room); refusal = writeRefusal r bytes room; place = 0 }
+abbrev pub writeAnswer : Reading → List ℕ → ℕ → Written
+writeAnswer r bytes room = record { count = length (toWrite r bytes room); refusal = writeRefusal r bytes room; place = 0 }

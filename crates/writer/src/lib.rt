@@ -2,20 +2,17 @@
 ghost use mathlib.Core.Path.{_≡_};
 ghost use lib.ListN.{length};
 ghost use Rattle.lists.specs.Buffers.{lay};
-ghost use Rattle.writer.specs.Write.{toWrite, written};
+ghost use Rattle.writer.specs.Write.{toWrite, writeAnswer};
 
 mod fits;
 mod puts;
 
+use readings::MOST_CELLS;
+use readings::NO_LAYOUT;
 use readings::Reading;
 
-// Refusals: fewer than 1,024 cells lent; no record of at most 1,024 cells reads as what was given.
+// The refusal beside NO_LAYOUT, which here means that no record of at most 1,024 cells reads as what was given: fewer than 1,024 cells lent.
 pub const TOO_FEW_CELLS: u8 = 11;
-
-pub const NO_LAYOUT: u8 = 14;
-
-// The longest record.
-pub const MOST_CELLS: usize = 1024;
 
 // How many cells were written, and the refusal, 0 for none; its place is 0.
 pub struct Written {
@@ -27,7 +24,7 @@ pub struct Written {
 // The record of a reading with its offers, ten bytes each, goes to the front of the cells; what lies behind it stays, and all of it after a refusal.
 // Bytes behind the last offer are not looked at.
 pub fn write(reading: Reading, offers: &[u8], cells: &mut [u16]) -> Written
-    ensures { λ r. ⌜ r ≡ written reading (now (offers .entry)) (length (now (cells .entry))) ⌝ }
+    ensures { λ r. ⌜ r ≡ writeAnswer reading (now (offers .entry)) (length (now (cells .entry))) ⌝ }
     ensures { λ _. ⌜ now (cells .exit) ≡ lay (toWrite reading (now (offers .entry)) (length (now (cells .entry)))) (now (cells .entry)) ⌝ }
 {
     if cells.len() < MOST_CELLS {

@@ -1,4 +1,6 @@
-// The layouts. Each function writes its cells from the place `at` on and says where the next place is.
+// The layouts. Each function writes its cells from the place `at` on, and all but `offer`, which writes eleven, say where the next place is.
+//
+//   S  START    Sr  repeated START    P  STOP    /W /R  a header's write and read bit    A  answered    N  not answered
 ghost use mathlib.Core.List.{[], _∷_};
 ghost use mathlib.Core.Path.{_≡_};
 ghost use mathlib.Core.Bool.{true};
@@ -96,7 +98,14 @@ fn opened(command: u16, at: usize, cells: &mut [u16]) -> usize
     two(parity::BROADCAST_WRITE_ANSWERED, command, at, cells)
 }
 
-// From 7Eh/W on, by command.
+// From 7Eh/W on, by command:
+//   none      7Eh/W N  P
+//   assign    7Eh/W A  07h  offers and the end of the rounds
+//   reset all 7Eh/W A  06h  P
+//   set       7Eh/W A  87h  its own part
+//   move      7Eh/W A  88h  its own part
+//   silence   7Eh/W A  01h  08h  P
+//   allow     7Eh/W A  00h  08h  P
 fn command(r: Reading, bytes: &[u8], at: usize, cells: &mut [u16]) -> usize
     requires { ⌜ (r .offers ≤ 92) × (10 * r .offers ≤ length (now bytes)) × (at + 1021 ≤ length (now cells)) ⌝ }
     ensures { λ n. ⌜ n ≡ at + length (commandCells (r .command) r (now (bytes .entry))) ⌝ }
@@ -134,7 +143,10 @@ fn command(r: Reading, bytes: &[u8], at: usize, cells: &mut [u16]) -> usize
     }
 }
 
-// The whole record, by joining.
+// The whole record, by joining:
+//   none      S  from 7Eh/W on
+//   refused   S  02h/W N  P
+//   answered  S  02h/W A  Sr  from 7Eh/W on
 pub fn record(r: Reading, bytes: &[u8], cells: &mut [u16]) -> usize
     requires { ⌜ (r .offers ≤ 92) × (10 * r .offers ≤ length (now bytes)) × (1024 ≤ length (now cells)) ⌝ }
     ensures { λ n. ⌜ n ≡ length (cellsOf r (now (bytes .entry))) ⌝ }
