@@ -1,7 +1,7 @@
 // What a line of the script came to.
 use crate::desk::Desk;
-use crate::same;
 use libc::STDOUT_FILENO;
+use lines::groups::Group;
 use lines::numbers::Numbers;
 
 // The desk, the numbers to compare with what the script says, whether all that had to stay is as it was, and whether the writer gave back the
@@ -23,17 +23,22 @@ pub fn seen(desk: Desk, numbers: Numbers) -> Came {
     }
 }
 
-// Whether it is what the script says.
-pub fn right(came: Came, said: Numbers) -> bool {
+// Compares it with what the script says, and counts it in the group. A wrong one is printed.
+pub fn compared(came: Came, said: Numbers, group: Group) -> Group {
     let numbers = came.numbers;
-    same::numbers(numbers, said) & came.untouched & came.echoed
+    let right = numbers.same(said) & came.untouched & came.echoed;
+    if !right {
+        group.print_number();
+        print(came);
+    }
+    group.counted(right)
 }
 
 // Prints what a line came to.
-pub fn print(came: Came) {
+fn print(came: Came) {
     let numbers = came.numbers;
     io::write_all(STDOUT_FILENO, b" came to");
-    print_numbers(numbers);
+    numbers.print();
     if !came.untouched {
         io::write_all(STDOUT_FILENO, b", and touched what had to stay");
     }
@@ -41,16 +46,4 @@ pub fn print(came: Came) {
         io::write_all(STDOUT_FILENO, b", and was not written back");
     }
     io::write_all(STDOUT_FILENO, b"\n");
-}
-
-// Prints numbers, each behind a blank.
-fn print_numbers(numbers: Numbers) {
-    let mut i: usize = 0;
-    while i < 24 {
-        if i < numbers.count {
-            io::write_all(STDOUT_FILENO, b" ");
-            io::print_decimal(STDOUT_FILENO, numbers.at(i));
-        }
-        i += 1;
-    }
 }

@@ -1,5 +1,6 @@
 // What lies before the reader and the writer: a record, a buffer of offers, and how much of what they are lent.
 ghost use Prim.Native.Nat.{_≤_};
+use lines::cells::BLANK_CELL;
 use lines::numbers::Numbers;
 use lines::numbers::byte;
 
@@ -13,9 +14,7 @@ pub struct Desk {
     pub lent: usize,
 }
 
-// What every cell and every byte is before a call.
-pub const BLANK_CELL: u16 = 65535;
-
+// What every byte is before a call.
 pub const BLANK_BYTE: u8 = 170;
 
 // A number, or the most that it may be.

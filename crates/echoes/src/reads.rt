@@ -44,9 +44,7 @@ fn numbers_of(answer: Answer) -> Numbers {
     let reading = answer.reading;
     let joining = reading.joining;
     let command = reading.command;
-    let named = Numbers::new()
-        .with(joining.number() as u64)
-        .with(command.number() as u64);
+    let named = Numbers::one(joining.number() as u64).with(command.number() as u64);
     let addressed = named.with(reading.header as u64).with(reading.new as u64);
     with_answers(addressed, reading.direct, reading.last, reading.offers)
         .with(answer.refusal as u64)
@@ -56,19 +54,14 @@ fn numbers_of(answer: Answer) -> Numbers {
 // The answers and how many offers go behind the numbers.
 fn with_answers(numbers: Numbers, direct: bool, last: bool, offers: usize) -> Numbers {
     numbers
-        .with(flag(direct))
-        .with(flag(last))
+        .with_mark(direct)
+        .with_mark(last)
         .with(offers as u64)
-}
-
-// A mark as a number.
-fn flag(set: bool) -> u64 {
-    if set { 1 } else { 0 }
 }
 
 // The numbers of a refusal: 0 in every one but its own and the place.
 pub fn refused(refusal: u64, place: u64) -> Numbers {
-    let nowhere = Numbers::new().with(0).with(0).with(0).with(0);
+    let nowhere = Numbers::one(0).with(0).with(0).with(0);
     with_answers(nowhere, false, false, 0)
         .with(refusal)
         .with(place)
@@ -77,20 +70,14 @@ pub fn refused(refusal: u64, place: u64) -> Numbers {
 // `ten PLACE`. The place, and the ten bytes that the buffer has for the offer there.
 pub fn ten(desk: Desk, place: usize) -> Came {
     let bytes = desk.bytes;
-    let first = 10 * at_most(place, 99);
-    let mut out = Numbers::new().with(place as u64);
-    let mut i: usize = 0;
-    while i < 10 {
-        let more = out.with(wide(bytes[first + i]));
-        out = more;
-        i += 1;
-    }
-    came::seen(desk, out)
+    came::seen(desk, with_ten(Numbers::one(place as u64), bytes, place))
 }
 
-// A byte as a number.
-fn wide(byte: u8) -> u64 {
-    byte as u64
+// The ten bytes of the offer at a place go behind the numbers.
+fn with_ten(numbers: Numbers, bytes: [u8; 1000], place: usize) -> Numbers {
+    let first = 10 * at_most(place, 99);
+    let last = first + 10;
+    numbers.with_bytes(&bytes[first..last])
 }
 
 // ---- many records
@@ -99,7 +86,7 @@ fn wide(byte: u8) -> u64 {
 fn breaks_off(cells: &[u16; 1100], length: usize) -> bool {
     let mut bytes = [BLANK_BYTE; 1000];
     let answer = read_part(cells, length, &mut bytes, 1000);
-    same::numbers(numbers_of(answer), refused(14, length as u64)) & same::blank_bytes(&bytes, 0)
+    numbers_of(answer).same(refused(14, length as u64)) & same::blank_bytes(&bytes, 0)
 }
 
 // `off`. How many beginnings of the record, each one cell longer than the one before it, break off at their length.
@@ -109,11 +96,11 @@ pub fn off(desk: Desk) -> Came {
     let mut n: usize = 0;
     while n < length {
         if !breaks_off(&cells, n) {
-            return came::seen(desk, Numbers::new().with(n as u64));
+            return came::seen(desk, Numbers::one(n as u64));
         }
         n += 1;
     }
-    came::seen(desk, Numbers::new().with(n as u64))
+    came::seen(desk, Numbers::one(n as u64))
 }
 
 // Whether the record breaks at the last of its cells, which is at this place.
@@ -136,5 +123,5 @@ pub fn fits(desk: Desk, place: usize) -> Came {
         }
         number += 1;
     }
-    came::seen(desk, Numbers::new().with(place as u64).with(count))
+    came::seen(desk, Numbers::one(place as u64).with(count))
 }

@@ -1,22 +1,6 @@
-// Whether lists are the same, or still blank.
+// Whether two records are the same, and whether bytes are still blank.
 use crate::desk::BLANK_BYTE;
-use crate::desk::BLANK_CELL;
 use crate::desk::at_most;
-use lines::numbers::Numbers;
-
-// Whether two lists have the same numbers, and as many.
-pub fn numbers(a: Numbers, b: Numbers) -> bool {
-    let x = a.list;
-    let y = b.list;
-    let mut i: usize = 0;
-    while i < 24 {
-        if x[i] != y[i] {
-            return false;
-        }
-        i += 1;
-    }
-    a.count == b.count
-}
 
 // Whether two records of so many cells are the same.
 pub fn cells(a: &[u16; 1100], b: &[u16; 1100], count: usize) -> bool {
@@ -24,18 +8,6 @@ pub fn cells(a: &[u16; 1100], b: &[u16; 1100], count: usize) -> bool {
     let mut i: usize = 0;
     while i < n {
         if a[i] != b[i] {
-            return false;
-        }
-        i += 1;
-    }
-    true
-}
-
-// Whether the cells from a place on are blank.
-pub fn blank_cells(cells: &[u16; 1100], first: usize) -> bool {
-    let mut i = first;
-    while i < 1100 {
-        if cells[i] != BLANK_CELL {
             return false;
         }
         i += 1;

@@ -8,48 +8,37 @@ use crate::desk::size;
 use crate::reads;
 use crate::shapes;
 use crate::writes;
-use libc::STDOUT_FILENO;
+use lines::groups::Group;
 use lines::numbers::Numbers;
+use lines::text::line_end;
 use lines::words;
 use lines::words::Line;
-use tally::Tally;
-use tally::one_more;
 
-// Where the script stands: the desk, the number of the line, the tally of the group, and where the group's name stands in the text, from and to.
+// Where the script stands: the desk, and the group.
 struct Standing {
     desk: Desk,
-    number: u32,
-    tally: Tally,
-    from: usize,
-    to: usize,
+    group: Group,
 }
 
 // A group begins, with a new desk.
-fn begun(number: u32, from: usize, to: usize) -> Standing {
+fn begun(group: Group) -> Standing {
     Standing {
         desk: Desk::new(),
-        number,
-        tally: Tally::new(),
-        from,
-        to,
+        group,
     }
 }
 
 // Plays a script and prints what its groups came to.
 pub fn play(text: &[u8]) {
-    let mut s = begun(0, 0, 0);
+    let mut s = begun(Group::new());
     let mut from: usize = 0;
-    let mut i: usize = 0;
-    while i < text.len() {
-        if text[i] == b'\n' {
-            let next = play_line(s, text, from, i);
-            s = next;
-            from = i + 1;
-        }
-        i += 1;
+    while from < text.len() {
+        let to = line_end(text, from);
+        let next = play_line(s, text, from, to);
+        s = next;
+        from = to + 1;
     }
-    let last = play_line(s, text, from, i);
-    report(last, text);
+    s.group.report(text);
 }
 
 // Plays the line that stands in the text from one place to another.
@@ -58,60 +47,36 @@ fn play_line(s: Standing, text: &[u8], from: usize, to: usize) -> Standing
 {
     let line = words::read(&text[from..to]);
     let letter = line.letter;
-    let number = one_more(s.number);
-    if letter == b'g' {
-        report(s, text);
-        return begun(number, name_start(from, to), to);
-    }
+    let group = s.group.at_line(text, from, to, letter);
     let mut next = s;
-    next.number = number;
-    if letter == 0 { next } else { step(next, line) }
-}
-
-// Where a group's name stands in its line: behind the word `group` and a blank.
-fn name_start(from: usize, to: usize) -> usize
-    requires { ⌜ from ≤ to ⌝ }
-{
-    if to - from < 6 { to } else { from + 6 }
-}
-
-// Prints the line of a group, if there is one.
-fn report(s: Standing, text: &[u8]) {
-    let from = s.from;
-    let to = s.to;
-    if (to == 0) & (s.tally.all == 0) {
-        return;
+    next.group = group;
+    match letter {
+        b'g' => begun(group),
+        0 => next,
+        _ => step(next, line),
     }
-    if text.len() < to {
-        return;
-    }
-    if to < from {
-        return;
-    }
-    s.tally.report(&text[from..to]);
 }
 
 // Plays a line that has a letter, and compares what it came to, if it comes to something.
 fn step(s: Standing, line: Line) -> Standing {
+    let mut next = s;
     let desk = s.desk;
     let letter = line.letter;
     let given = line.given;
     if !shapes::right(line) {
-        print_number(s.number);
-        io::write_all(STDOUT_FILENO, b" cannot be read\n");
-        return counted(s, desk, false);
+        let group = s.group.cannot_be_read();
+        next.group = group;
+    } else if !shapes::comes_to_something(letter) {
+        let changed = desk.changed(letter, given);
+        next.desk = changed;
+    } else {
+        let came = play_step(desk, letter, given);
+        let after = came.desk;
+        next.desk = after;
+        let group = came::compared(came, shapes::said(line), s.group);
+        next.group = group;
     }
-    if !shapes::comes_to_something(letter) {
-        return with_desk(s, desk.changed(letter, given));
-    }
-    let came = play_step(desk, letter, given);
-    let right = came::right(came, shapes::said(line));
-    if !right {
-        print_number(s.number);
-        came::print(came);
-    }
-    let after = came.desk;
-    counted(s, after, right)
+    next
 }
 
 // What a line comes to, by its letter.
@@ -123,26 +88,4 @@ fn play_step(desk: Desk, letter: u8, given: Numbers) -> Came {
         b'w' => writes::write(desk, given),
         _ => reads::read(desk),
     }
-}
-
-// Prints the number of a line.
-fn print_number(number: u32) {
-    io::write_all(STDOUT_FILENO, b"  line ");
-    io::print_decimal(STDOUT_FILENO, number as u64);
-}
-
-// From here on this is the desk.
-fn with_desk(s: Standing, desk: Desk) -> Standing {
-    let mut next = s;
-    next.desk = desk;
-    next
-}
-
-// One step more has been compared, and was right or not; this is the desk after it.
-fn counted(s: Standing, desk: Desk, right: bool) -> Standing {
-    let tally = s.tally.with(right);
-    let mut next = s;
-    next.desk = desk;
-    next.tally = tally;
-    next
 }

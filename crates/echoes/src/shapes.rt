@@ -1,18 +1,10 @@
 // Which numbers a line of the script can have, and what it says a step comes to.
 use crate::reads;
 use lines::numbers::Numbers;
+use lines::shapes::HowMany;
+use lines::shapes::between;
+use lines::shapes::fits;
 use lines::words::Line;
-
-// How many numbers stand before the sign: at least and at most.
-struct HowMany {
-    least: usize,
-    most: usize,
-}
-
-// From so many to so many.
-fn between(least: usize, most: usize) -> HowMany {
-    HowMany { least, most }
-}
 
 // How many numbers a line has before the sign, by its letter. For a letter that is no line's there is no number that fits.
 fn how_many(letter: u8) -> HowMany {
@@ -27,47 +19,24 @@ fn how_many(letter: u8) -> HowMany {
     }
 }
 
-// The highest number that may stand at a place of a line.
-fn highest(letter: u8, place: usize) -> u64 {
+// The highest number at each place of a line, the last one for the places behind it too.
+fn highest(letter: u8) -> Numbers {
     match letter {
-        b's' | b'w' => highest_read(place),
-        b't' => choose(place == 0, 99, 255),
-        b'f' => choose(place == 0, 1099, 65536),
-        b'B' => choose(place == 0, 999, 255),
-        b'R' | b'S' => 1000,
-        b'L' | b'o' => 1100,
-        b'a' => 100,
-        _ => 65535,
+        b's' | b'w' => highest_of_reading(),
+        b't' => Numbers::one(99).with(255),
+        b'f' => Numbers::one(1099).with(65536),
+        b'B' => Numbers::one(999).with(255),
+        b'R' | b'S' => Numbers::one(1000),
+        b'L' | b'o' => Numbers::one(1100),
+        b'a' => Numbers::one(100),
+        _ => Numbers::one(65535),
     }
 }
 
-// The highest number at a place of a reading: joining, command, header, new address, direct, last, offers.
-fn highest_read(place: usize) -> u64 {
-    match place {
-        0 => 2,
-        1 => 6,
-        2 | 3 => 255,
-        4 | 5 => 1,
-        _ => 18446744073709551615,
-    }
-}
-
-// The first number if so, else the second.
-fn choose(first: bool, x: u64, y: u64) -> u64 {
-    if first { x } else { y }
-}
-
-// Whether none of a line's numbers is too high for its place.
-fn in_range(line: Line) -> bool {
-    let given = line.given;
-    let mut i: usize = 0;
-    while i < 24 {
-        if highest(line.letter, i) < given.at(i) {
-            return false;
-        }
-        i += 1;
-    }
-    true
+// The highest numbers of a reading: joining, command, header, new address, direct, last, offers.
+fn highest_of_reading() -> Numbers {
+    let addressed = Numbers::one(2).with(6).with(255).with(255);
+    addressed.with(1).with(1).with(18446744073709551615)
 }
 
 // Whether a line of this letter comes to something. The others only change what the next ones meet.
@@ -78,16 +47,10 @@ pub fn comes_to_something(letter: u8) -> bool {
     }
 }
 
-// Whether a line can be played: all its words could be read, its numbers are as many as its letter takes, each in range, and only `write` has a
-// sign.
+// Whether a line can be played: its numbers are those that its letter takes, and only `write` has a sign.
 pub fn right(line: Line) -> bool {
-    let given = line.given;
-    let many = how_many(line.letter);
-    line.right
-        & (many.least <= given.count)
-        & (given.count <= many.most)
-        & in_range(line)
-        & (line.behind == (line.letter == b'w'))
+    let letter = line.letter;
+    fits(line, how_many(letter), highest(letter), letter == b'w')
 }
 
 // What a line says that it comes to. `says`, `breaks` and `refused` are all a reading with refusal and place.

@@ -1,9 +1,10 @@
 // The writer, as a line of the script calls it.
 use crate::came::Came;
-use crate::desk::BLANK_CELL;
 use crate::desk::Desk;
 use crate::desk::at_most;
 use crate::same;
+use lines::cells::BLANK_CELL;
+use lines::cells::blank_from;
 use lines::numbers::Numbers;
 use lines::numbers::byte;
 use readings::Command;
@@ -40,7 +41,7 @@ pub fn echoes(
         & (written.count == length)
         & (written.place == 0)
         & same::cells(&out, cells, length)
-        & same::blank_cells(&out, length)
+        & blank_from(&out, length)
 }
 
 // `write`. Refusal, count and place. What was written is then the record, if it was not refused.
@@ -49,14 +50,13 @@ pub fn write(desk: Desk, given: Numbers) -> Came {
     let mut cells = [BLANK_CELL; 1100];
     let written = write_part(reading_of(given), &bytes, desk.span, &mut cells, desk.lent);
     let count = written.count;
-    let numbers = Numbers::new()
-        .with(written.refusal as u64)
+    let numbers = Numbers::one(written.refusal as u64)
         .with(count as u64)
         .with(written.place as u64);
     Came {
         desk: after(desk, written.refusal, cells, count),
         numbers,
-        untouched: same::blank_cells(&cells, count),
+        untouched: blank_from(&cells, count),
         echoed: true,
     }
 }

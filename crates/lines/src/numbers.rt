@@ -1,4 +1,5 @@
 // Numbers as the script writes them, decimal, or hexadecimal with an h behind: 9, 09h.
+use libc::STDOUT_FILENO;
 
 // Up to 24 numbers, in the first `count` places. No line of the script has as many.
 pub struct Numbers {
@@ -13,6 +14,11 @@ impl Numbers {
             list: [0; 24],
             count: 0,
         }
+    }
+
+    // One number.
+    pub fn one(number: u64) -> Numbers {
+        Numbers::new().with(number)
     }
 
     // One number more, as long as there is a place.
@@ -31,6 +37,68 @@ impl Numbers {
         let list = self.list;
         if place < 24 { list[place] } else { 0 }
     }
+
+    // One mark more, as 1 or 0.
+    pub fn with_mark(self, set: bool) -> Numbers {
+        self.with(if set { 1 } else { 0 })
+    }
+
+    // These bytes more.
+    pub fn with_bytes(self, bytes: &[u8]) -> Numbers {
+        let mut longer = self;
+        let mut i: usize = 0;
+        while i < bytes.len() {
+            let next = longer.with(wide(bytes[i]));
+            longer = next;
+            i += 1;
+        }
+        longer
+    }
+
+    // Whether these are the same numbers, and as many.
+    pub fn same(self, other: Numbers) -> bool {
+        let mut i: usize = 0;
+        while i < 24 {
+            if self.at(i) != other.at(i) {
+                return false;
+            }
+            i += 1;
+        }
+        self.count == other.count
+    }
+
+    // Whether none is higher than the highest for its place. The last of these is for all places behind it too.
+    pub fn within(self, highest: Numbers) -> bool {
+        let mut most: u64 = 0;
+        let mut i: usize = 0;
+        while i < 24 {
+            if i < highest.count {
+                most = highest.at(i);
+            }
+            if most < self.at(i) {
+                return false;
+            }
+            i += 1;
+        }
+        true
+    }
+
+    // Prints the numbers, each behind a blank.
+    pub fn print(self) {
+        let mut i: usize = 0;
+        while i < 24 {
+            if i < self.count {
+                io::write_all(STDOUT_FILENO, b" ");
+                io::print_decimal(STDOUT_FILENO, self.at(i));
+            }
+            i += 1;
+        }
+    }
+}
+
+// A byte as a number.
+fn wide(byte: u8) -> u64 {
+    byte as u64
 }
 
 // ---- a word read
@@ -107,7 +175,7 @@ fn with_digit(read: Reading, digit: u8, hexadecimal: bool) -> Reading {
     Reading { value, right }
 }
 
-// ---- the numbers of a line as the calls take them, each in range: shapes.rt has seen to it
+// ---- the numbers of a line as the calls take them, each in range: `fits` has seen to it
 
 // A number as a byte.
 pub fn byte(number: u64) -> u8 {

@@ -1,9 +1,9 @@
 // The machine's calls, as a line of the script makes them.
 ghost use Prim.Native.Nat.{_≤_};
 use crate::came;
-use crate::came::BLANK;
 use crate::came::Came;
 use crate::looks;
+use lines::cells::BLANK_CELL;
 use lines::numbers::Numbers;
 use lines::numbers::byte;
 use lines::numbers::bytes_from;
@@ -63,12 +63,12 @@ fn start(given: Numbers) -> Came {
     let n = count_from(given, 2);
     let done = machine::start(byte(given.at(0)), &legacy[0..n], ticket(given.at(1)));
     let machine = done.machine;
-    came::stepped(machine, done, [BLANK; 12])
+    came::stepped(machine, done, [BLANK_CELL; 12])
 }
 
 // `begin CHOICE STATIC NEW TICKET`.
 fn begin(m: Machine, given: Numbers, lent: usize) -> Came {
-    let mut cells = [BLANK; 12];
+    let mut cells = [BLANK_CELL; 12];
     let n = room(lent);
     let choice = byte(given.at(0));
     let from = byte(given.at(1));
@@ -80,7 +80,7 @@ fn begin(m: Machine, given: Numbers, lent: usize) -> Came {
 
 // `heard` and `nobody`.
 fn answer(m: Machine, heard: bool, lent: usize) -> Came {
-    let mut cells = [BLANK; 12];
+    let mut cells = [BLANK_CELL; 12];
     let n = room(lent);
     let done = m.answer(heard, &mut cells[0..n]);
     came::stepped(m, done, cells)
@@ -90,7 +90,7 @@ fn answer(m: Machine, heard: bool, lent: usize) -> Came {
 fn identity(m: Machine, given: Numbers, lent: usize) -> Came {
     let bytes = bytes_from(given, 0);
     let many = count_from(given, 0);
-    let mut cells = [BLANK; 12];
+    let mut cells = [BLANK_CELL; 12];
     let n = room(lent);
     let done = m.identity(&bytes[0..many], &mut cells[0..n]);
     came::stepped(m, done, cells)
@@ -98,7 +98,7 @@ fn identity(m: Machine, given: Numbers, lent: usize) -> Came {
 
 // `up`.
 fn give_up(m: Machine, lent: usize) -> Came {
-    let mut cells = [BLANK; 12];
+    let mut cells = [BLANK_CELL; 12];
     let n = room(lent);
     let done = m.give_up(&mut cells[0..n]);
     came::stepped(m, done, cells)
@@ -106,7 +106,7 @@ fn give_up(m: Machine, lent: usize) -> Came {
 
 // `join CHOICE`.
 fn join(m: Machine, choice: u8, lent: usize) -> Came {
-    let mut cells = [BLANK; 12];
+    let mut cells = [BLANK_CELL; 12];
     let n = room(lent);
     let done = m.join(choice, &mut cells[0..n]);
     came::stepped(m, done, cells)
@@ -115,15 +115,13 @@ fn join(m: Machine, choice: u8, lent: usize) -> Came {
 // `retire TICKET`.
 fn retire(m: Machine, ticket: u32) -> Came {
     let done = m.retire(ticket);
-    came::stepped(m, done, [BLANK; 12])
+    came::stepped(m, done, [BLANK_CELL; 12])
 }
 
 // `query TICKET`.
 fn ask(m: Machine, ticket: u32) -> Came {
     let asked = m.ask(ticket);
-    let numbers = Numbers::new()
-        .with(asked.refusal as u64)
-        .with(asked.address as u64);
+    let numbers = Numbers::one(asked.refusal as u64).with(asked.address as u64);
     came::seen(m, numbers)
 }
 
@@ -136,7 +134,7 @@ fn eight(identity: u64) -> [u8; 8] {
 
 // One board at round: it is heard, its identity comes, and it accepts the offer. The first call that is refused ends it.
 fn card(m: Machine, identity: u64) -> Stepped {
-    let mut cells = [BLANK; 12];
+    let mut cells = [BLANK_CELL; 12];
     let heard = m.answer(true, &mut cells);
     if heard.refusal != 0 {
         return heard;
@@ -161,5 +159,5 @@ fn cards(m: Machine, first: u64, last: u64) -> Came {
             refusal = done.refusal;
         }
     }
-    came::seen(machine, Numbers::new().with(refusal as u64))
+    came::seen(machine, Numbers::one(refusal as u64))
 }

@@ -1,6 +1,8 @@
 // What a line of the script came to.
 use crate::same;
 use libc::STDOUT_FILENO;
+use lines::cells::blank_from;
+use lines::groups::Group;
 use lines::numbers::Numbers;
 use machine::Machine;
 use machine::Stepped;
@@ -14,9 +16,6 @@ pub struct Came {
     pub kept: bool,
 }
 
-// What every cell is before a call.
-pub const BLANK: u16 = 65535;
-
 // A cell as a number.
 fn wide(cell: u16) -> u64 {
     cell as u64
@@ -24,7 +23,7 @@ fn wide(cell: u16) -> u64 {
 
 // A refusal and the cells that were written.
 fn outcome(refusal: u8, count: usize, cells: [u16; 12]) -> Numbers {
-    let mut out = Numbers::new().with(refusal as u64);
+    let mut out = Numbers::one(refusal as u64);
     let mut i: usize = 0;
     while i < 12 {
         if i < count {
@@ -36,25 +35,13 @@ fn outcome(refusal: u8, count: usize, cells: [u16; 12]) -> Numbers {
     out
 }
 
-// Whether the cells from a place on are blank.
-fn blank_from(first: usize, cells: [u16; 12]) -> bool {
-    let mut i: usize = 0;
-    while i < 12 {
-        if (first <= i) & (cells[i] != BLANK) {
-            return false;
-        }
-        i += 1;
-    }
-    true
-}
-
 // What a call came to that was given this machine, and blank cells, which are now these.
 pub fn stepped(before: Machine, done: Stepped, cells: [u16; 12]) -> Came {
     let machine = done.machine;
     Came {
         machine,
         numbers: outcome(done.refusal, done.count, cells),
-        untouched: blank_from(done.count, cells),
+        untouched: blank_from(&cells, done.count),
         kept: (done.refusal == 0) | same::machine(before, machine),
     }
 }
@@ -69,17 +56,22 @@ pub fn seen(machine: Machine, numbers: Numbers) -> Came {
     }
 }
 
-// Whether it is what the script says.
-pub fn right(came: Came, said: Numbers) -> bool {
+// Compares it with what the script says, and counts it in the group. A wrong one is printed.
+pub fn compared(came: Came, said: Numbers, group: Group) -> Group {
     let numbers = came.numbers;
-    same::numbers(numbers, said) & came.untouched & came.kept
+    let right = numbers.same(said) & came.untouched & came.kept;
+    if !right {
+        group.print_number();
+        print(came);
+    }
+    group.counted(right)
 }
 
 // Prints what a line came to.
-pub fn print(came: Came) {
+fn print(came: Came) {
     let numbers = came.numbers;
     io::write_all(STDOUT_FILENO, b" came to");
-    print_numbers(numbers);
+    numbers.print();
     if !came.untouched {
         io::write_all(STDOUT_FILENO, b", and wrote behind its cells");
     }
@@ -87,16 +79,4 @@ pub fn print(came: Came) {
         io::write_all(STDOUT_FILENO, b", and changed the machine");
     }
     io::write_all(STDOUT_FILENO, b"\n");
-}
-
-// Prints numbers, each behind a blank.
-fn print_numbers(numbers: Numbers) {
-    let mut i: usize = 0;
-    while i < 24 {
-        if i < numbers.count {
-            io::write_all(STDOUT_FILENO, b" ");
-            io::print_decimal(STDOUT_FILENO, numbers.at(i));
-        }
-        i += 1;
-    }
 }

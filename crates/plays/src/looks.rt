@@ -7,7 +7,7 @@ use rows::Row;
 // The moment's number, and what is remembered: choice, address asked, address wanted, identity, address offered, refusals in succession.
 pub fn moment(m: Machine) -> Numbers {
     let moment = m.moment;
-    let first = Numbers::new().with(number_of(moment));
+    let first = Numbers::one(number_of(moment));
     with_offer(with_choice(first, m), m)
 }
 
@@ -42,26 +42,14 @@ fn with_offer(numbers: Numbers, m: Machine) -> Numbers {
 // Flags and last ticket.
 pub fn facts(m: Machine) -> Numbers {
     let f = m.facts;
-    Numbers::new().with(f.flags as u64).with(f.last as u64)
+    Numbers::one(f.flags as u64).with(f.last as u64)
 }
 
 // The sixteen bytes of the legacy set.
 pub fn devices(m: Machine) -> Numbers {
     let f = m.facts;
     let legacy = f.legacy;
-    let mut out = Numbers::new();
-    let mut i: usize = 0;
-    while i < 16 {
-        let more = out.with(wide(legacy[i]));
-        out = more;
-        i += 1;
-    }
-    out
-}
-
-// A byte as a number.
-fn wide(byte: u8) -> u64 {
-    byte as u64
+    Numbers::new().with_bytes(&legacy)
 }
 
 // What stands at a place of the table; nothing behind its 32 places.
@@ -77,15 +65,9 @@ pub fn place(m: Machine, place: usize) -> Numbers {
 
 // A row: address, ticket, mark "identity unknown", identity, static address.
 fn row(r: Row) -> Numbers {
-    Numbers::new()
-        .with(r.address as u64)
+    Numbers::one(r.address as u64)
         .with(r.ticket as u64)
-        .with(flag(r.unknown))
+        .with_mark(r.unknown)
         .with(r.identity)
         .with(r.from_static as u64)
-}
-
-// A mark as a number.
-fn flag(set: bool) -> u64 {
-    if set { 1 } else { 0 }
 }

@@ -8,15 +8,10 @@ mod came;
 mod looks;
 mod same;
 mod script;
+mod shapes;
 
 fn main() {
     let mut text = io::large_buffer();
-    let n = io::read_full(libc::STDIN_FILENO, &mut text);
-    if n == 65536 {
-        io::write_all(
-            libc::STDOUT_FILENO,
-            b"the script has more than 65,535 bytes; what follows them is not played\n",
-        );
-    }
+    let n = lines::text::read(&mut text);
     script::play(&text[..n]);
 }

@@ -16,11 +16,8 @@ loop-holds c = search needs
 breaks-off-requires : tie.Need-breaks-off-requires Inv-loop μ-loop
 breaks-off-requires c κs = search needs
 
-new-requires : tie.Need-new-requires Inv-loop μ-loop
-new-requires c κs = search needs
-
-with-requires : tie.Need-with-requires Inv-loop μ-loop
-with-requires c κs = search needs
+one-requires : tie.Need-one-requires Inv-loop μ-loop
+one-requires c κs = search needs
 
 seen-requires : tie.Need-seen-requires Inv-loop μ-loop
 seen-requires c κs = search needs
@@ -37,11 +34,8 @@ loop-less c = search needs
 loop-again : tie.Need-loop-again Inv-loop μ-loop
 loop-again c = search needs
 
-new-requires-2 : tie.Need-new-requires-2 Inv-loop μ-loop
-new-requires-2 c κs = search needs
-
-with-requires-2 : tie.Need-with-requires-2 Inv-loop μ-loop
-with-requires-2 c κs = search needs
+one-requires-2 : tie.Need-one-requires-2 Inv-loop μ-loop
+one-requires-2 c κs = search needs
 
 seen-requires-2 : tie.Need-seen-requires-2 Inv-loop μ-loop
 seen-requires-2 c κs = search needs
@@ -57,14 +51,12 @@ off-spec =
     μ-loop
     loop-holds
     breaks-off-requires
-    new-requires
-    with-requires
+    one-requires
     seen-requires
     returns
     add-n
     loop-less
     loop-again
-    new-requires-2
-    with-requires-2
+    one-requires-2
     seen-requires-2
     returns-2)

@@ -10,11 +10,8 @@ Inv-loop refusal count cells out₀ i₀ out i = i ≤ 12
 abbrev μ-loop : tie.MeasureT-loop
 μ-loop refusal count cells out₀ i₀ out i = 12 - i
 
-new-requires : tie.Need-new-requires Inv-loop μ-loop
-new-requires c κs = search needs
-
-with-requires : tie.Need-with-requires Inv-loop μ-loop
-with-requires c κs = search needs
+one-requires : tie.Need-one-requires Inv-loop μ-loop
+one-requires c κs = search needs
 
 loop-holds : tie.Need-loop-holds Inv-loop μ-loop
 loop-holds c = search needs
@@ -28,8 +25,8 @@ array-read-wide c = search needs
 wide-requires : tie.Need-wide-requires Inv-loop μ-loop
 wide-requires c κs = search needs
 
-with-requires-2 : tie.Need-with-requires-2 Inv-loop μ-loop
-with-requires-2 c κs = search needs
+with-requires : tie.Need-with-requires Inv-loop μ-loop
+with-requires c κs = search needs
 
 add-i : tie.Need-add-i Inv-loop μ-loop
 add-i c = search needs
@@ -49,13 +46,12 @@ outcome-spec =
     (tie.spec
     Inv-loop
     μ-loop
-    new-requires
-    with-requires
+    one-requires
     loop-holds
     mul-wide
     array-read-wide
     wide-requires
-    with-requires-2
+    with-requires
     add-i
     loop-less
     loop-again

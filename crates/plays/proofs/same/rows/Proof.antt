@@ -19,8 +19,8 @@ place-requires c κs = search needs
 place-requires-2 : tie.Need-place-requires-2 Inv-loop μ-loop
 place-requires-2 c κs = search needs
 
-numbers-requires : tie.Need-numbers-requires Inv-loop μ-loop
-numbers-requires c κs = search needs
+same-requires : tie.Need-same-requires Inv-loop μ-loop
+same-requires c κs = search needs
 
 returns : tie.Need-returns Inv-loop μ-loop
 returns c = search needs
@@ -46,7 +46,7 @@ rows-spec =
     loop-holds
     place-requires
     place-requires-2
-    numbers-requires
+    same-requires
     returns
     add-i
     loop-less

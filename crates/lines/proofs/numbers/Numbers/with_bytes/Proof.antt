@@ -1,23 +1,21 @@
--- `plays::looks::devices` is safe, and ends after sixteen bytes.
+-- `lines::numbers::Numbers::with_bytes` is safe, and ends with the last byte.
 use Prim.Native.Nat.{_-_, _≤_}
+use lib.ListN.{length}
 use borrow.Author.Needs.{needs}
-use Rattle.plays.proofs.looks.devices.Statement.{statement}
-use Rattle.plays.proofs.looks.devices.Tie as tie
+use Rattle.lines.proofs.numbers.Numbers.with_bytes.Statement.{statement}
+use Rattle.lines.proofs.numbers.Numbers.with_bytes.Tie as tie
 
 abbrev Inv-loop : tie.InvT-loop
-Inv-loop legacy out₀ i₀ out i = i ≤ 16
+Inv-loop bytes longer₀ i₀ longer i = i ≤ length bytes
 
 abbrev μ-loop : tie.MeasureT-loop
-μ-loop legacy out₀ i₀ out i = 16 - i
-
-new-requires : tie.Need-new-requires Inv-loop μ-loop
-new-requires c κs = search needs
+μ-loop bytes longer₀ i₀ longer i = length bytes - i
 
 loop-holds : tie.Need-loop-holds Inv-loop μ-loop
 loop-holds c = search needs
 
-array-read-wide : tie.Need-array-read-wide Inv-loop μ-loop
-array-read-wide c = search needs
+shared-slice-read-wide : tie.Need-shared-slice-read-wide Inv-loop μ-loop
+shared-slice-read-wide c = search needs
 
 wide-requires : tie.Need-wide-requires Inv-loop μ-loop
 wide-requires c κs = search needs
@@ -37,15 +35,14 @@ loop-again c = search needs
 returns : tie.Need-returns Inv-loop μ-loop
 returns c = search needs
 
-pub devices-spec : {M : Type 1} → statement M
-devices-spec =
+pub with-bytes-spec : {M : Type 1} → statement M
+with-bytes-spec =
     tie.close
     (tie.spec
     Inv-loop
     μ-loop
-    new-requires
     loop-holds
-    array-read-wide
+    shared-slice-read-wide
     wide-requires
     with-requires
     add-i

@@ -1,23 +1,23 @@
--- `echoes::same::blank_cells` is safe, and ends with the last cell.
+-- `lines::numbers::Numbers::within` is safe, and ends after 24 places.
 use Prim.Native.Nat.{_-_, _≤_}
 use borrow.Author.Needs.{needs}
-use Rattle.echoes.proofs.same.blank_cells.Statement.{statement}
-use Rattle.echoes.proofs.same.blank_cells.Tie as tie
+use Rattle.lines.proofs.numbers.Numbers.within.Statement.{statement}
+use Rattle.lines.proofs.numbers.Numbers.within.Tie as tie
 
 abbrev Inv-loop : tie.InvT-loop
-Inv-loop cells first i₀ i = first ≤ i
+Inv-loop self highest most₀ i₀ most i = i ≤ 24
 
 abbrev μ-loop : tie.MeasureT-loop
-μ-loop cells first i₀ i = 1100 - i
+μ-loop self highest most₀ i₀ most i = 24 - i
 
 loop-holds : tie.Need-loop-holds Inv-loop μ-loop
 loop-holds c = search needs
 
-mul-if1 : tie.Need-mul-if1 Inv-loop μ-loop
-mul-if1 c = search needs
+at-requires : tie.Need-at-requires Inv-loop μ-loop
+at-requires c κs = search needs
 
-element-copy-out-if1 : tie.Need-element-copy-out-if1 Inv-loop μ-loop
-element-copy-out-if1 c = search needs
+at-requires-2 : tie.Need-at-requires-2 Inv-loop μ-loop
+at-requires-2 c κs = search needs
 
 returns : tie.Need-returns Inv-loop μ-loop
 returns c = search needs
@@ -34,15 +34,15 @@ loop-again c = search needs
 returns-2 : tie.Need-returns-2 Inv-loop μ-loop
 returns-2 c = search needs
 
-pub blank-cells-spec : {M : Type 1} → statement M
-blank-cells-spec =
+pub within-spec : {M : Type 1} → statement M
+within-spec =
     tie.close
     (tie.spec
     Inv-loop
     μ-loop
     loop-holds
-    mul-if1
-    element-copy-out-if1
+    at-requires
+    at-requires-2
     returns
     add-i
     loop-less

@@ -1,14 +1,15 @@
--- `echoes::same::numbers` is safe, and ends after 24 places.
+-- `lines::cells::blank_from` is safe, and ends with the last cell.
 use Prim.Native.Nat.{_-_, _≤_}
+use lib.ListN.{length}
 use borrow.Author.Needs.{needs}
-use Rattle.echoes.proofs.same.numbers.Statement.{statement}
-use Rattle.echoes.proofs.same.numbers.Tie as tie
+use Rattle.lines.proofs.cells.blank_from.Statement.{statement}
+use Rattle.lines.proofs.cells.blank_from.Tie as tie
 
 abbrev Inv-loop : tie.InvT-loop
-Inv-loop a b x y i₀ i = i ≤ 24
+Inv-loop cells first i₀ i = first ≤ i
 
 abbrev μ-loop : tie.MeasureT-loop
-μ-loop a b x y i₀ i = 24 - i
+μ-loop cells first i₀ i = length cells - i
 
 loop-holds : tie.Need-loop-holds Inv-loop μ-loop
 loop-holds c = search needs
@@ -16,14 +17,8 @@ loop-holds c = search needs
 mul-if1 : tie.Need-mul-if1 Inv-loop μ-loop
 mul-if1 c = search needs
 
-array-read-if1 : tie.Need-array-read-if1 Inv-loop μ-loop
-array-read-if1 c = search needs
-
-mul-if1-2 : tie.Need-mul-if1-2 Inv-loop μ-loop
-mul-if1-2 c = search needs
-
-array-read-if1-2 : tie.Need-array-read-if1-2 Inv-loop μ-loop
-array-read-if1-2 c = search needs
+shared-slice-read-if1 : tie.Need-shared-slice-read-if1 Inv-loop μ-loop
+shared-slice-read-if1 c = search needs
 
 returns : tie.Need-returns Inv-loop μ-loop
 returns c = search needs
@@ -40,17 +35,15 @@ loop-again c = search needs
 returns-2 : tie.Need-returns-2 Inv-loop μ-loop
 returns-2 c = search needs
 
-pub numbers-spec : {M : Type 1} → statement M
-numbers-spec =
+pub blank-from-spec : {M : Type 1} → statement M
+blank-from-spec =
     tie.close
     (tie.spec
     Inv-loop
     μ-loop
     loop-holds
     mul-if1
-    array-read-if1
-    mul-if1-2
-    array-read-if1-2
+    shared-slice-read-if1
     returns
     add-i
     loop-less

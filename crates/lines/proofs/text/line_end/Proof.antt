@@ -1,26 +1,24 @@
--- `plays::came::blank_from` is safe, and ends after twelve cells.
+-- `lines::text::line_end` is safe, ends at the end of the text, and answers a place from the given one to there.
 use Prim.Native.Nat.{_-_, _≤_}
+use lib.ListN.{length}
 use borrow.Author.Needs.{needs}
-use Rattle.plays.proofs.came.blank_from.Statement.{statement}
-use Rattle.plays.proofs.came.blank_from.Tie as tie
+use Rattle.lines.proofs.text.line_end.Statement.{statement}
+use Rattle.lines.proofs.text.line_end.Tie as tie
 
 abbrev Inv-loop : tie.InvT-loop
-Inv-loop first cells i₀ i = i ≤ 12
+Inv-loop text from i₀ i = from ≤ i
 
 abbrev μ-loop : tie.MeasureT-loop
-μ-loop first cells i₀ i = 12 - i
+μ-loop text from i₀ i = length text - i
 
 loop-holds : tie.Need-loop-holds Inv-loop μ-loop
 loop-holds c = search needs
 
-mul-if1 : tie.Need-mul-if1 Inv-loop μ-loop
-mul-if1 c = search needs
-
-array-read-if1 : tie.Need-array-read-if1 Inv-loop μ-loop
-array-read-if1 c = search needs
+shared-slice-read-if1 : tie.Need-shared-slice-read-if1 Inv-loop μ-loop
+shared-slice-read-if1 c = search needs
 
 returns : tie.Need-returns Inv-loop μ-loop
-returns c = search needs
+returns c = (search needs, λ h. search needs)
 
 add-i : tie.Need-add-i Inv-loop μ-loop
 add-i c = search needs
@@ -32,17 +30,16 @@ loop-again : tie.Need-loop-again Inv-loop μ-loop
 loop-again c = search needs
 
 returns-2 : tie.Need-returns-2 Inv-loop μ-loop
-returns-2 c = search needs
+returns-2 c = (search needs, λ h. h)
 
-pub blank-from-spec : {M : Type 1} → statement M
-blank-from-spec =
+pub line-end-spec : {M : Type 1} → statement M
+line-end-spec =
     tie.close
     (tie.spec
     Inv-loop
     μ-loop
     loop-holds
-    mul-if1
-    array-read-if1
+    shared-slice-read-if1
     returns
     add-i
     loop-less

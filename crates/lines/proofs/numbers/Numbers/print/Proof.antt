@@ -1,14 +1,14 @@
--- `plays::came::print_numbers` is safe, and ends after 24 places.
+-- `lines::numbers::Numbers::print` is safe, and ends after 24 places.
 use Prim.Native.Nat.{_-_, _≤_}
 use borrow.Author.Needs.{needs}
-use Rattle.plays.proofs.came.print_numbers.Statement.{statement}
-use Rattle.plays.proofs.came.print_numbers.Tie as tie
+use Rattle.lines.proofs.numbers.Numbers.print.Statement.{statement}
+use Rattle.lines.proofs.numbers.Numbers.print.Tie as tie
 
 abbrev Inv-loop : tie.InvT-loop
-Inv-loop numbers i₀ t3 i = i ≤ 24
+Inv-loop self i₀ t3 i = i ≤ 24
 
 abbrev μ-loop : tie.MeasureT-loop
-μ-loop numbers i₀ t3 i = 24 - i
+μ-loop self i₀ t3 i = 24 - i
 
 loop-holds : tie.Need-loop-holds Inv-loop μ-loop
 loop-holds c = search needs
@@ -37,8 +37,8 @@ loop-again c = search needs
 returns : tie.Need-returns Inv-loop μ-loop
 returns c = search needs
 
-pub print-numbers-spec : {M : Type 1} → statement M
-print-numbers-spec =
+pub print-spec : {M : Type 1} → statement M
+print-spec =
     tie.close
     (tie.spec
     Inv-loop
