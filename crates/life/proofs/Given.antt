@@ -22,7 +22,7 @@ use Rattle.machine.specs.declared.Machine.{Machine}
 use Rattle.machine.specs.declared.Moment.{Moment}
 use Rattle.machine.specs.declared.Moment.the-variants.{Idle, Opened, Round, Listening, Offered, Direct}
 use Rattle.machine.specs.Moments.{idle, goesDirect, rightAt, machineRight}
-use Rattle.machine.specs.Refusals.{stepRefusal, beginRefusal, joinRefusal, identityRefusal, giveUpRefusal, retireRefusal, askRefusal}
+use Rattle.machine.specs.Refusals.{stepRefusal, restRefusal, beginRefusal, joinRefusal, identityRefusal, giveUpRefusal, retireRefusal, askRefusal}
 use Rattle.machine.specs.Steps.{Step, did, refuse, beginning, joining, onwardMachine, roundRule, commanded, openedAnswer, roundAnswer, listened, assignedRow, acceptedRows, accepted, declined, setRow, directed, directAnswer, answerAt}
 use Rattle.machine.specs.Calls.{unless, begun, answered, identified, givenUp, joined, retired, asked}
 use Rattle.life.proofs.Table.{free-says, lowest-free}
@@ -84,7 +84,7 @@ step-asks-right room m more h = go (ltb room 8) h
 
 -- so a call that is not refused was made of a right machine
 acts-right : (c : Call) (m : Machine) → eqb (refusing c m) 0 ≡ true → machineRight m ≡ true
-unfolding beginRefusal identityRefusal giveUpRefusal joinRefusal retireRefusal askRefusal
+unfolding beginRefusal identityRefusal giveUpRefusal joinRefusal restRefusal retireRefusal askRefusal
 acts-right (begin choice static new ticket room) m h = step-asks-right room m _ h
 acts-right (answer heard room) m h = step-asks-right room m _ h
 acts-right (identity bytes room) m h = step-asks-right room m _ h

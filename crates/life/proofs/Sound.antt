@@ -34,12 +34,12 @@ use Rattle.life.proofs.Begins.{begin-asks-right, join-asks-right}
 
 module _ (f : Facts) (rows : List Row) (h : sound f rows ≡ true) where
   -- idle, whatever the rows
-  idle-right : machineRight (idle f rows) ≡ true
+  pub idle-right : machineRight (idle f rows) ≡ true
   unfolding machineRight momentRight
   idle-right = and h refl
 
   -- opened, for what the rows allow
-  opened-right : (choice asked wanted : ℕ) → askedRight f rows choice asked wanted ≡ true → machineRight (opened f rows choice asked wanted) ≡ true
+  pub opened-right : (choice asked wanted : ℕ) → askedRight f rows choice asked wanted ≡ true → machineRight (opened f rows choice asked wanted) ≡ true
   unfolding machineRight momentRight
   opened-right choice asked wanted a = and h (and (and a refl) refl)
 
@@ -51,15 +51,15 @@ module _ (f : Facts) (rows : List Row) (h : sound f rows ≡ true) where
 
   -- in an assign's rounds: calling, listening, offering
   module _ (refusals : ℕ) (few : ltb refusals 2 ≡ true) (can : canAssign f rows ≡ true) where
-    round-right : machineRight (round f rows refusals) ≡ true
+    pub round-right : machineRight (round f rows refusals) ≡ true
     unfolding machineRight momentRight
     round-right = and h (and (and few can) refl)
 
-    listening-right : machineRight (listening f rows refusals) ≡ true
+    pub listening-right : machineRight (listening f rows refusals) ≡ true
     unfolding machineRight momentRight
     listening-right = and h (and (and few can) refl)
 
-    offering-right : (id : ℕ) → machineRight (offering f rows id (addressFor f rows id) refusals) ≡ true
+    pub offering-right : (id : ℕ) → machineRight (offering f rows id (addressFor f rows id) refusals) ≡ true
     unfolding machineRight momentRight
     offering-right id = and h (and (and few can) (eq-eqb (addressFor f rows id) (addressFor f rows id) refl))
 

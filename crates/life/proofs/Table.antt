@@ -9,7 +9,7 @@ use lib.ListN.{length, replicate, length-take, length-set}
 use borrow.Author.Tests.{ltb-true, ltb-false, leb-true, eqb-true, eqb-false, lt-ltb, le-leb, eq-eqb, ne-eqb, not-true, not-false}
 use Rattle.lists.specs.Lists.{all, pairwise, insertBy, removeAt}
 use Rattle.lists.specs.Numbers.{within}
-use Rattle.lists.proofs.Bools.{both, and, or-right, neither, not-both, where-so, so-there, eqb-sym, here}
+use Rattle.lists.proofs.Bools.{both, and, cond-by, or-right, neither, not-both, where-so, so-there, eqb-sym, here}
 use Rattle.lists.proofs.Keeps.{all-mono, all-take, all-at, all-both, found-passes, find-lt, none-any, all-insert, all-set, all-remove, pairwise-take, pairwise-insert, pairwise-set, pairwise-remove, pairwise-others}
 use Rattle.lists.proofs.Edits.{length-insert, length-remove, remove-none}
 use Rattle.lists.proofs.Numbers.{first-passes}
@@ -208,6 +208,21 @@ free-says f rows a h =
 pub lowest-free : (f : Facts) (rows : List Row) → noFreeAddress f rows ≡ false → isFree f rows (lowestFree f rows) ≡ true
 unfolding lowestFree
 lowest-free f rows h = first-passes (isFree f rows) 0x00 128 (eqb-false (lowestFree f rows) 0 (lowest-none f rows ∙ h))
+
+-- so what an identity is offered is open: its row's address, or that one
+pub address-open : (f : Facts) (rows : List Row) (id : ℕ) → sound f rows ≡ true → canAssign f rows ≡ true → isOpen f (addressFor f rows id) ≡ true
+unfolding addressFor canAssign
+address-open f rows id h can =
+    let t = simp and-eq-true-iff at can in
+    let place = placeOfIdentity id rows in
+    cond-by (λ a. isOpen f a ≡ true) (holdsIdentity id rows)
+    (λ e.
+    let inside = find-lt (hasIdentity id) rows e in
+    let has = simp and-eq-true-iff at (found-passes (hasIdentity id) rows noRow inside) in
+    let right = used-right f (rowAt rows place) (all-at (rowRight f) rows place noRow (sound-says h .each) inside) (has .0 .0) in
+    let u = simp and-eq-true-iff at right in
+    u .0 .0 .0)
+    (λ e. free-says f rows (lowestFree f rows) (lowest-free f rows (not-true (noFreeAddress f rows) (t .0 .1))) .opens)
 
 -- ---- a new row
 

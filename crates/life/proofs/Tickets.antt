@@ -24,7 +24,7 @@ use Rattle.machine.specs.declared.Machine.{Machine}
 use Rattle.machine.specs.declared.Moment.{Moment}
 use Rattle.machine.specs.declared.Moment.the-variants.{Idle, Offered}
 use Rattle.machine.specs.Moments.{machineRight, isIdle}
-use Rattle.machine.specs.Refusals.{stepRefusal, beginRefusal, retireRefusal, askRefusal}
+use Rattle.machine.specs.Refusals.{stepRefusal, restRefusal, beginRefusal, retireRefusal, askRefusal}
 use Rattle.machine.specs.Steps.{Step, refuse, roundRule, acceptedRows, accepted, answerAt}
 use Rattle.machine.specs.Calls.{begun, answered, retired, asked}
 use Rattle.life.specs.Life.{Call, begin, answer, identity, giveUp, join, retire, ask, stepOf, after, afterAll, names, Returned, newIn, given, givenOver}
@@ -198,7 +198,7 @@ module _ (m : Machine) (t : ℕ) (h : ticketRetired (m .facts) (m .rows) t ≡ t
 
   -- a call that names it is refused
   names-refused : (c : Call) → names t c ≡ true → eqb (refusing c m) 0 ≡ false
-  unfolding beginRefusal stepRefusal retireRefusal askRefusal
+  unfolding beginRefusal stepRefusal restRefusal retireRefusal askRefusal
   names-refused (begin choice static new ticket room) n =
       let u = both (eqb choice 3) (eqb ticket t) n in
       rw (eqb-true choice 3 (u .0), eqb-true ticket t (u .1))
@@ -239,7 +239,7 @@ retired-move m static new t room enough right rests small h =
 
 pub retired-retire : (m : Machine) (t : ℕ) → machineRight m ≡ true → m .moment ≡ Idle → ticketRetired (m .facts) (m .rows) t ≡ true
     → retired m t ≡ refuse m 9
-unfolding retireRefusal
+unfolding restRefusal retireRefusal
 retired-retire m t right rests h = refuses (retire t) m 9 (rw (right, ap isIdle rests) (refused-nine (m .facts) (m .rows) t h)) refl
 
 -- ---- a board that comes back

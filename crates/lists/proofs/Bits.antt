@@ -1,13 +1,19 @@
--- Laws of a number's bits: one bit lower is the bit of the half, and a number whose bits are all 0 is 0.
+-- Laws of a number's bits: one bit lower is the bit of the half, and a number whose bits are all 0 is 0; and of its bytes.
 use Prim.Native.Nat.{ℕ, zero, suc, _/_, _%_, _^_, _≤_, _<_}
-use mathlib.Core.Path.{_≡_, sym, _∙_}
+use mathlib.Core.Path.{_≡_, refl, sym, _∙_}
 use mathlib.Core.Bool.{true, false}
+use mathlib.Core.List.{[], _∷_}
 use native.Mathlib.Nat.{pow-suc, mul-comm, div-div-eq-div-mul, div-one, zero-div, le-div-iff-mul-le}
 use native.Mathlib.Omega.{arith}
-use lib.Dec.{eqb}
+use lib.Dec.{eqb, leb}
+use lib.ListN.{length, length-append}
 use lib.Pow.{pow-pos}
-use borrow.Author.Tests.{eqb-true, eqb-false}
-use Rattle.lists.specs.Bits.{bit}
+use borrow.Author.Tests.{eqb-true, eqb-false, le-leb}
+use Rattle.lists.specs.Bits.{bit, bytesOf}
+use Rattle.lists.specs.Lists.{all}
+use Rattle.lists.proofs.Keeps.{all-snoc}
+
+-- ---- bits
 
 pub bit-zero : (x : ℕ) → bit 0 x ≡ eqb (x % 2) 1
 unfolding bit
@@ -34,3 +40,33 @@ bits-none (suc n) x l h =
     let low : (x % 2 ≡ 1 → ⊥) = eqb-false (x % 2) 1 (sym (bit-zero x) ∙ h 0 (omega arith)) in
     let half : x / 2 ≡ 0 = bits-none n (x / 2) (omega (arith, pow-suc 2 n)) (λ k b. sym (bit-suc k x) ∙ h (suc k) (omega arith)) in
     omega (arith, low)
+
+-- ---- bytes
+
+-- so many bytes are so many
+pub bytes-long : (k n : ℕ) → length (bytesOf k n) ≡ k
+unfolding bytesOf
+bytes-long zero n = refl
+bytes-long (suc k) n = rw (length-append, bytes-long k (n / 256)) (omega arith)
+
+-- each is of eight bits
+pub bytes-small : (k n : ℕ) → all (λ b. leb b 255) (bytesOf k n) ≡ true
+unfolding bytesOf
+bytes-small zero n = refl
+bytes-small (suc k) n = all-snoc (λ b. leb b 255) (n % 256) (le-leb (n % 256) 255 (omega arith)) (bytesOf k (n / 256)) (bytes-small k (n / 256))
+
+-- eight of them, each by its own division
+pub bytes-eight : (n : ℕ)
+    → n / 0x100000000000000 % 256 ∷ n / 0x1000000000000 % 256 ∷ n / 0x10000000000 % 256 ∷ n / 0x100000000 % 256
+    ∷ n / 0x1000000 % 256 ∷ n / 0x10000 % 256 ∷ n / 0x100 % 256 ∷ n % 256 ∷ []
+    ≡ bytesOf 8 n
+unfolding bytesOf
+bytes-eight n =
+    rw (
+      div-div-eq-div-mul n 0x100 256,
+      div-div-eq-div-mul n 0x10000 256,
+      div-div-eq-div-mul n 0x1000000 256,
+      div-div-eq-div-mul n 0x100000000 256,
+      div-div-eq-div-mul n 0x10000000000 256,
+      div-div-eq-div-mul n 0x1000000000000 256,
+    )

@@ -1,35 +1,20 @@
 -- Laws of what is written into a buffer, element by element, behind what was written before, or into a part `buffer[at..]` that was lent.
 use mathlib.Core.Path.{_≡_, _∙_}
 use mathlib.Core.List.{List, [], _∷_, _++_, append-assoc, append-nil}
-use Prim.Native.Nat.{ℕ, suc, _+_, _-_, _<_, _≤_}
-use native.Mathlib.Nat.{zero-add, le-refl}
+use Prim.Native.Nat.{ℕ, _+_, _-_, _<_, _≤_}
+use native.Mathlib.Nat.{le-refl}
 use native.Mathlib.Omega.{arith}
 use native.Mathlib.Numerals.{add-one}
-use lib.ListN.{length, take, drop, set, getD, length-append, length-drop, length-take, drop-of-length-le}
+use lib.ListN.{length, take, drop, set, length-append, length-drop, length-take, drop-of-length-le}
 use borrow.Rule.Slice.PartMut.{putMid, midOf}
-use lib.Seq.{take-all, take-at, drop-at, drop-cons, drop-drop, set-append-seam, set-at, sets, sets-eq}
+use lib.Seq.{take-all, take-at, drop-at, drop-cons, drop-drop, set-at, sets, sets-eq}
 use Rattle.lists.specs.Buffers.{lay, layAt}
 
 module _ {A : Type 0} where
   pub lay-length : (out buffer : List A) → length out ≤ length buffer → length (lay out buffer) ≡ length buffer
   lay-length out buffer h = simp (length-append, length-drop) (omega arith)
 
-  -- one element more
-  pub lay-one : (out buffer : List A) (v d : A) → length out < length buffer → set (lay out buffer) (length out) v ≡ lay (out ++ (v ∷ [])) buffer
-  lay-one out buffer v d h =
-      rw (
-        drop-cons buffer (length out) d h,
-        set-append-seam out (getD buffer (length out) d) (drop (suc (length out)) buffer) v,
-        append-assoc out (v ∷ []) _,
-        length-append out (v ∷ []),
-        add-one (length out),
-      )
-
-  -- elements stored one after the other from the first place on
-  pub lay-sets : (out buffer : List A) → length out ≤ length buffer → sets buffer 0 out ≡ lay out buffer
-  lay-sets out buffer h = let room : 0 + length out ≤ length buffer = rw zero-add h in sets-eq out buffer 0 room ∙ rw zero-add
-
-  -- and from the place `at` on
+  -- elements stored one after the other from the place `at` on
   pub layAt-sets : (at : ℕ) (out buffer : List A) → at + length out ≤ length buffer → sets buffer at out ≡ layAt at out buffer
   layAt-sets at out buffer h = sets-eq out buffer at h ∙ rw (append-assoc, drop-drop)
 
@@ -76,19 +61,6 @@ module _ {A : Type 0} where
       )
       (simp append-assoc)
 
-  -- what was written, and what lies behind it
-  module _ (at n : ℕ) (out buffer : List A) (l : length out ≡ n) (h : at + n ≤ length buffer) where
-    layAt-split : layAt at out buffer ≡ (take at buffer ++ out) ++ drop (at + n) buffer
-    layAt-split = rw (l, append-assoc, drop-drop n at buffer)
-
-    front : length (take at buffer ++ out) ≡ at + n
-    front = simp (length-append, length-take) (omega arith)
-
-    pub layAt-take : take (at + n) (layAt at out buffer) ≡ take at buffer ++ out
-    layAt-take = rw layAt-split (take-at (take at buffer ++ out) (drop (at + n) buffer) (at + n) front)
-
-    pub layAt-drop : drop (at + n) (layAt at out buffer) ≡ drop (at + n) buffer
-    layAt-drop = rw layAt-split (drop-at (take at buffer ++ out) (drop (at + n) buffer) (at + n) front)
-
-    pub layAt-length : length (layAt at out buffer) ≡ length buffer
-    layAt-length = rw layAt-split (simp (length-append, length-take, length-drop) (omega arith))
+  -- as long as it was
+  pub layAt-length : (at n : ℕ) (out buffer : List A) → length out ≡ n → at + n ≤ length buffer → length (layAt at out buffer) ≡ length buffer
+  layAt-length at n out buffer l h = rw l (simp (length-append, length-take, length-drop) (omega arith))

@@ -1,13 +1,13 @@
 -- What all and pairwise say of parts of a list, and that they stay when an element is put in, replaced, taken out or cut off; what it
--- means that something was found.
+-- means that something was found, and how many pass.
 use Prim.Native.Nat.{ℕ, zero, suc, _<_, _≤_}
 use mathlib.Core.Path.{_≡_, refl, sym, ap, _∙_}
-use mathlib.Core.Bool.{Bool, true, false, cond, not, _&&_, _||_}
-use mathlib.Core.List.{List, [], _∷_, _++_}
+use mathlib.Core.Bool.{Bool, true, false, cond, not, _&&_, _||_, false≢true}
+use mathlib.Core.List.{List, [], _∷_, _++_, map}
 use native.Mathlib.Omega.{arith}
 use lib.Dec.{ltb, leb·suc-suc}
 use lib.ListN.{length, getD, take, drop, set}
-use Rattle.lists.specs.Lists.{any, all, pairwise, find, insertBy, removeAt}
+use Rattle.lists.specs.Lists.{any, all, pairwise, count, find, insertBy, removeAt}
 use borrow.Author.Tests.{ltb-true, lt-ltb, not-true}
 use Rattle.lists.proofs.Bools.{both, and, or-right}
 
@@ -37,15 +37,6 @@ module _ {A : Type 0} where
       and (and (both (p y) (all p ys) h .0) (both (q y) (all q ys) k .0))
       (all-both p q ys (both (p y) (all p ys) h .1) (both (q y) (all q ys) k .1))
 
-  -- where nothing is found, every element fails the test
-  pub none-found : (p : A → Bool) (l : List A) → length l ≤ find p l → all (λ y. not (p y)) l ≡ true
-  none-found p [] h = refl
-  none-found p (y ∷ ys) h = go (none-found p ys) (p y) h
-    where
-      go : (length ys ≤ find p ys → all (λ z. not (p z)) ys ≡ true) → (b : Bool) → suc (length ys) ≤ cond b 0 (suc (find p ys)) → (not b && all (λ z. not (p z)) ys) ≡ true
-      go ih true k = absurd (omega arith)
-      go ih false k = ih (omega arith)
-
   -- where something is found, it passes
   pub found-passes : (p : A → Bool) (l : List A) (d : A) → find p l < length l → p (getD l (find p l) d) ≡ true
   found-passes p [] d h = absurd (omega arith)
@@ -72,6 +63,29 @@ module _ {A : Type 0} where
   any-at p [] k d b h = absurd (omega arith)
   any-at p (y ∷ ys) zero d b h = rw h
   any-at p (y ∷ ys) (suc k) d b h = or-right (p y) (any-at p ys k d (omega arith) h)
+
+  -- some element of what f makes of a list passes where f of some element does
+  pub any-map : {B : Type 0} (q : B → Bool) (f : A → B) (l : List A) → any q (map f l) ≡ any (λ y. q (f y)) l
+  any-map q f [] = refl
+  any-map q f (y ∷ ys) = ap (λ (b : Bool). q (f y) || b) (any-map q f ys)
+
+  -- where some element passes, at least one does
+  pub any-count : (p : A → Bool) (l : List A) → any p l ≡ true → 1 ≤ count p l
+  any-count p [] h = absurd (false≢true h)
+  any-count p (y ∷ ys) h = go (any-count p ys) (p y) h
+    where
+      go : (any p ys ≡ true → 1 ≤ count p ys) → (b : Bool) → (b || any p ys) ≡ true → 1 ≤ cond b (suc (count p ys)) (count p ys)
+      go ih true k = omega arith
+      go ih false k = ih k
+
+  -- no more pass than there are
+  pub count-le : (p : A → Bool) (l : List A) → count p l ≤ length l
+  count-le p [] = omega arith
+  count-le p (y ∷ ys) = go (count-le p ys) (p y)
+    where
+      go : count p ys ≤ length ys → (b : Bool) → cond b (suc (count p ys)) (count p ys) ≤ suc (length ys)
+      go ih true = omega arith
+      go ih false = omega arith
 
   pub none-any : (p : A → Bool) (l : List A) → any p l ≡ false → all (λ y. not (p y)) l ≡ true
   none-any p [] h = refl

@@ -4,11 +4,15 @@
 --     -found   where the loop returns early -ended   after the loop
 use Prim.Native.Nat.{ℕ, _+_, _<_, _≤_}
 use mathlib.Core.Path.{_≡_, refl, _∙_, sym}
-use mathlib.Core.Bool.{Bool, true, false}
+use mathlib.Core.Bool.{Bool, true, false, _&&_}
 use mathlib.Core.List.{List}
 use native.Mathlib.Omega.{arith}
-use lib.ListN.{length, getD, drop}
+use lib.Dec.{ltb}
+use lib.ListN.{length, getD, take, drop, length-take}
+use lib.Seq.{getD-take}
+use borrow.Author.Tests.{ltb-true, ltb-false}
 use Rattle.lists.specs.Lists.{any, all, pairwise, count, find}
+use Rattle.lists.proofs.Bools.{both}
 use Rattle.lists.proofs.Lists.{any-here, any-next, any-end, all-here, all-next, all-end, count-here, count-next, count-end, find-here, find-next, find-end, pairwise-here, pairwise-next, pairwise-end}
 
 module _ {A : Type 0} where
@@ -111,3 +115,41 @@ module _ {A : Type 0} where
 
     pub pairs-ended : Pairs r l d n i → n ≤ i → true ≡ pairwise r l
     pairs-ended v b = sym (v .same ∙ pairwise-end r l i (omega arith))
+
+-- ---- a loop over all n places that looks only at the first k
+
+module _ {A : Type 0} where
+  -- no element before i, and among the first k, passed
+  pub record AnyOf (p : A → Bool) (k : ℕ) (l : List A) (d : A) (n i : ℕ) : Type 0 where
+    pub len : length l ≡ n
+    pub inside : i ≤ n
+    pub same : any p (take k l) ≡ any p (drop i (take k l))
+
+  module _ {p : A → Bool} {k : ℕ} {l : List A} {d : A} {n : ℕ} where
+    pub any-of-start : length l ≡ n → AnyOf p k l d n 0
+    any-of-start e = record { len = e; inside = omega arith; same = refl }
+
+  -- a place among them is one of the list taken
+  here-taken : (k : ℕ) (l : List A) (n i : ℕ) → length l ≡ n → i < n → i < k → i < length (take k l)
+  here-taken k l n i e b h = omega (arith, length-take k l)
+
+  module _ {p : A → Bool} {k : ℕ} {l : List A} {d : A} {n i : ℕ} where
+    pub any-of-turn : AnyOf p k l d n i → i < n → (ltb i k && p (getD l i d)) ≡ false → AnyOf p k l d n (i + 1)
+    any-of-turn v b e = record { len = v .len; inside = omega arith; same = v .same ∙ go (ltb i k) refl }
+      where
+        go : (t : Bool) → ltb i k ≡ t → any p (drop i (take k l)) ≡ any p (drop (i + 1) (take k l))
+        go true h =
+            let j : i < k = ltb-true i k h in
+            any-next p (take k l) i d (here-taken k l n i (v .len) b j) (rw (getD-take k l i d j) (rw h at e))
+        go false h =
+            let j : length (take k l) ≤ i = omega (arith, length-take k l, ltb-false i k h) in
+            any-end p (take k l) i j ∙ sym (any-end p (take k l) (i + 1) (omega arith))
+
+    pub any-of-found : AnyOf p k l d n i → i < n → (ltb i k && p (getD l i d)) ≡ true → true ≡ any p (take k l)
+    any-of-found v b e =
+        let t = both (ltb i k) (p (getD l i d)) e in
+        let j : i < k = ltb-true i k (t .0) in
+        sym (v .same ∙ any-here p (take k l) i d (here-taken k l n i (v .len) b j) (rw (getD-take k l i d j) (t .1)))
+
+    pub any-of-ended : AnyOf p k l d n i → n ≤ i → false ≡ any p (take k l)
+    any-of-ended v b = sym (v .same ∙ any-end p (take k l) i (omega (arith, length-take k l, v .len)))

@@ -1,16 +1,60 @@
--- The loops over the eight bytes of an identity: its number, and its cells.
-use Prim.Native.Nat.{ℕ, _+_, _*_, _^_, _<_, _≤_}
+-- The number of bytes and the bytes of a number, and the loops over the eight bytes of an identity: its number, and its cells.
+use Prim.Native.Nat.{ℕ, zero, suc, _+_, _*_, _/_, _%_, _^_, _<_, _≤_}
 use mathlib.Core.Path.{_≡_, refl, sym, _∙_}
-use mathlib.Core.List.{List, map}
-use native.Mathlib.Nat.{pow-le-pow-right, zero-lt-suc}
+use mathlib.Core.Bool.{true}
+use mathlib.Core.List.{List, [], _∷_, _++_, map, append-nil, append-assoc}
+use native.Mathlib.Nat.{pow-suc, pow-le-pow-right, zero-lt-suc}
 use native.Mathlib.Numerals.{add-one}
 use native.Mathlib.Omega.{arith}
+use lib.Dec.{leb}
 use lib.ListN.{length, getD, drop, set, drop-of-length-le, length-map, List·getD-map}
 use lib.Seq.{take-all}
+use borrow.Author.Tests.{leb-true}
+use Rattle.lists.specs.Bits.{bytesOf}
+use Rattle.lists.specs.Lists.{all}
+use Rattle.lists.proofs.Bools.{both}
 use Rattle.lists.proofs.Edits.{Filled, filled-turn, filled-ended}
 use Rattle.lists.proofs.Lists.{drop-step}
 use Rattle.parity.specs.Cells.{identityCell}
 use Rattle.machine.specs.Steps.{digits, identityOf}
+
+-- ---- a number in bytes, and back
+
+-- the number of bytes with one more behind them
+digits-more : (bytes : List ℕ) (n b : ℕ) → digits n (bytes ++ (b ∷ [])) ≡ digits n bytes * 256 + b
+digits-more [] n b = refl
+digits-more (c ∷ bytes) n b = digits-more bytes (n * 256 + c) b
+
+-- k bytes hold a number below 256 to that power
+digits-back : (k n : ℕ) → n < 256 ^ k → digits 0 (bytesOf k n) ≡ n
+unfolding bytesOf
+digits-back zero n h = omega arith
+digits-back (suc k) n h =
+    digits-more (bytesOf k (n / 256)) 0 (n % 256) ∙ rw (digits-back k (n / 256) (omega (arith, pow-suc 256 k))) (omega arith)
+
+-- so eight bytes hold an identity
+pub number-back : (n : ℕ) → n < 2 ^ 64 → identityOf (bytesOf 8 n) ≡ n
+number-back n h = digits-back 8 n h
+
+-- one byte behind a number is taken off it again
+byte-off : (n b : ℕ) → b ≤ 255 → ((n * 256 + b) / 256 ≡ n) × ((n * 256 + b) % 256 ≡ b)
+byte-off n b h = omega arith
+
+-- the bytes of the number of bytes, behind those of another
+bytes-behind : (bytes : List ℕ) (i n k : ℕ) → all (λ b. leb b 255) bytes ≡ true → i + length bytes ≡ k
+    → bytesOf k (digits n bytes) ≡ bytesOf i n ++ bytes
+unfolding bytesOf
+bytes-behind [] i n k h e = let z : k ≡ i = omega arith in rw z (sym (append-nil (bytesOf i n)))
+bytes-behind (b ∷ bs) i n k h e =
+    let t = both (leb b 255) (all (λ c. leb c 255) bs) h in
+    let o = byte-off n b (leb-true b 255 (t .0)) in
+    bytes-behind bs (suc i) (n * 256 + b) k (t .1) (omega arith)
+    ∙ rw (o .0, o .1) (append-assoc (bytesOf i n) (b ∷ []) bs)
+
+-- eight bytes are those of their number
+pub bytes-back : (bytes : List ℕ) → length bytes ≡ 8 → all (λ b. leb b 255) bytes ≡ true → bytesOf 8 (identityOf bytes) ≡ bytes
+unfolding bytesOf
+bytes-back bytes long h = bytes-behind bytes 0 0 8 h (omega arith)
 
 -- ---- the number: n is that of the first i bytes
 

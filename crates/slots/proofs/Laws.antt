@@ -1,7 +1,7 @@
--- Laws of the slots: numbers above 7Fh, the two bytes that decide whether a legacy set is right, facts that were checked, the slot test's ways.
+-- Laws of the slots: numbers above 7Fh, open addresses, the two bytes that decide whether a legacy set is right, facts that were checked, the slot test's ways.
 use Prim.Native.Nat.{ℕ, _+_, _*_, _/_, _%_, _≤_, _<_}
 use mathlib.Core.Path.{_≡_, refl, sym, ap, _∙_}
-use mathlib.Core.Bool.{Bool, true, false, not, _&&_, _||_, or-true, and-false}
+use mathlib.Core.Bool.{Bool, true, false, not, _&&_, _||_, or-true, and-false, true≢false}
 use mathlib.Core.List.{List, [], _∷_}
 use native.Mathlib.Omega.{arith}
 use lib.Dec.{eqb, ltb, leb}
@@ -12,7 +12,7 @@ use Rattle.lists.specs.Numbers.{numbers, within}
 use Rattle.lists.proofs.Bools.{both, and, agree}
 use Rattle.lists.proofs.Numbers.{all-numbers, all-numbers-at, within-below, within-above, one-of-above}
 use Rattle.lists.proofs.Bits.{bit-of-zero, bits-none}
-use Rattle.slots.specs.Slots.{classOf, isLegacy, liesRight, legacyRight, factsOf, refusedFacts, factsRight, checked, isOpen, slotTest}
+use Rattle.slots.specs.Slots.{classOf, allows, isLegacy, liesRight, legacyRight, factsOf, refusedFacts, factsRight, checked, isOpen, slotTest}
 use Rattle.slots.specs.declared.Facts.{Facts}
 use Rattle.slots.specs.declared.Checked.{Checked}
 
@@ -33,6 +33,28 @@ class-above a h =
       one-of-above (0x78 ∷ 0x79 ∷ 0x7B ∷ []) 128 a refl h,
       ne-eqb a 0x7D (λ e. omega (arith, e)),
     )
+
+-- ---- an open address
+
+module _ (f : Facts) (a : ℕ) (h : isOpen f a ≡ true) where
+  -- is a number up to 7Fh
+  pub open-small : a ≤ 127
+  unfolding isOpen allows
+  open-small = go (ltb a 128) refl
+    where
+      go : (b : Bool) → ltb a 128 ≡ b → a ≤ 127
+      go true e = omega (arith, ltb-true a 128 e)
+      go false e = absurd (true≢false (sym (rw (class-above a (ltb-false a 128 e)) at h)))
+
+  -- is not 0
+  pub open-not-zero : a ≡ 0 → ⊥
+  unfolding isOpen allows classOf
+  open-not-zero e = true≢false (sym (rw e at h))
+
+  -- and is not 7Eh
+  pub open-not-broadcast : a ≡ 0x7E → ⊥
+  unfolding isOpen allows classOf
+  open-not-broadcast e = true≢false (sym (rw e at h))
 
 -- ---- a right legacy set, by its first and last byte
 

@@ -1,16 +1,15 @@
 -- What a machine that keeps the rules may ask for: addresses of seven bits, and an assign only where there can be a round.
 use Prim.Native.Nat.{ℕ, _≤_}
-use mathlib.Core.Path.{_≡_, refl, sym, _∙_}
-use mathlib.Core.Bool.{Bool, true, false, and-eq-true-iff, true≢false}
+use mathlib.Core.Path.{_≡_, refl, _∙_}
+use mathlib.Core.Bool.{Bool, true, false, and-eq-true-iff}
 use mathlib.Core.List.{List}
 use native.Mathlib.Omega.{arith}
-use lib.Dec.{eqb, ltb}
-use borrow.Author.Tests.{ltb-true, ltb-false, leb-true, eqb-true}
+use lib.Dec.{eqb}
+use borrow.Author.Tests.{leb-true, eqb-true}
 use Rattle.lists.proofs.Bools.{both, here}
 use Rattle.lists.proofs.Keeps.{all-at, found-passes, find-lt}
-use Rattle.slots.specs.Slots.{allows, isOpen}
 use Rattle.slots.specs.declared.Facts.{Facts}
-use Rattle.slots.proofs.Laws.{class-above}
+use Rattle.slots.proofs.Laws.{open-small}
 use Rattle.rows.specs.Rows.{noRow, inUse, hasAddress, holdsAddress, placeOfAddress, rowAt}
 use Rattle.rows.specs.declared.Row.{Row}
 use Rattle.free.specs.Free.{isFree, canAssign}
@@ -19,17 +18,8 @@ use Rattle.begins.specs.Begins.{canSet, canMove, noAddresses, askedRight}
 use Rattle.machine.specs.Moments.{goesDirect}
 use Rattle.life.proofs.Table.{sound-says, free-says}
 
--- an open address has seven bits
-open-small : (f : Facts) (a : ℕ) → isOpen f a ≡ true → a ≤ 127
-unfolding isOpen allows
-open-small f a h = go (ltb a 128) refl
-  where
-    go : (b : Bool) → ltb a 128 ≡ b → a ≤ 127
-    go true e = omega (arith, ltb-true a 128 e)
-    go false e = absurd (true≢false (sym (rw (class-above a (ltb-false a 128 e)) at h)))
-
 module _ (f : Facts) (rows : List Row) where
-  -- so has one that a row of a sound table holds
+  -- an address that a row of a sound table holds has seven bits, as it is open
   held-small : (a : ℕ) → sound f rows ≡ true → holdsAddress a rows ≡ true → a ≤ 127
   held-small a h held =
       let place = placeOfAddress a rows in

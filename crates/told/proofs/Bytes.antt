@@ -1,44 +1,20 @@
 -- The numbers in cells: what the reader finds in the cells that the machine writes.
-use Prim.Native.Nat.{ℕ, zero, suc, _+_, _*_, _/_, _%_, _≤_}
-use mathlib.Core.Path.{_≡_, refl, sym, ap, _∙_}
+use Prim.Native.Nat.{ℕ, zero, suc, _≤_}
+use mathlib.Core.Path.{_≡_, refl, ap}
 use mathlib.Core.Bool.{Bool, true, false, cond}
-use mathlib.Core.List.{List, [], _∷_, _++_, map, append-nil, append-assoc}
+use mathlib.Core.List.{List, [], _∷_, _++_, map, append-assoc}
 use native.Mathlib.Omega.{arith}
 use lib.Dec.{eqb, leb}
 use lib.ListN.{length, drop, length-map}
 use lib.Seq.{getD-append-seam, drop-append-add}
-use borrow.Author.Tests.{leb-true}
 use Rattle.lists.specs.Numbers.{numbers}
 use Rattle.lists.proofs.Bools.{both, and}
 use Rattle.parity.specs.Cells.{answerCell, identityCell, writeByte, offeredByte}
 use Rattle.parity.proofs.Laws.{odd-bit-lt, offer-taken}
-use Rattle.machine.specs.Steps.{digits, identityOf}
 use Rattle.reader.specs.Points.{ninthOf, byteOf, addressIn, answeredIn, isWriteByte, isOffered}
 use Rattle.reader.specs.Read.{cellAt, identityByte, tenOf, tensOf}
 use Rattle.reader.proofs.Cells.{pair-byte, pair-ninth, pair-is-byte, identity-back, write-taken, write-address}
 use Rattle.records.specs.Records.{areBytes}
-use Rattle.told.specs.Told.{bytesOf}
-
--- ---- bytes of a number
-
--- one byte behind a number is taken off it again
-byte-off : (n b : ℕ) → b ≤ 255 → ((n * 256 + b) / 256 ≡ n) × ((n * 256 + b) % 256 ≡ b)
-byte-off n b h = omega arith
-
--- the bytes of the number of bytes, behind those of another
-bytes-behind : (bytes : List ℕ) (i n k : ℕ) → areBytes bytes ≡ true → i + length bytes ≡ k → bytesOf k (digits n bytes) ≡ bytesOf i n ++ bytes
-unfolding bytesOf
-bytes-behind [] i n k h e = let z : k ≡ i = omega arith in rw z (sym (append-nil (bytesOf i n)))
-bytes-behind (b ∷ bs) i n k h e =
-    let t = both (leb b 255) (areBytes bs) h in
-    let o = byte-off n b (leb-true b 255 (t .0)) in
-    bytes-behind bs (suc i) (n * 256 + b) k (t .1) (omega arith)
-    ∙ rw (o .0, o .1) (append-assoc (bytesOf i n) (b ∷ []) bs)
-
--- eight bytes are those of their number
-pub bytes-back : (bytes : List ℕ) → length bytes ≡ 8 → areBytes bytes ≡ true → bytesOf 8 (identityOf bytes) ≡ bytes
-unfolding bytesOf
-bytes-back bytes long h = bytes-behind bytes 0 0 8 h (omega arith)
 
 -- ---- the ten bytes of an offer
 

@@ -8,6 +8,7 @@ use native.Mathlib.Nat.{add-zero}
 use native.Mathlib.Omega.{arith}
 use lib.Dec.{eqb, leb}
 use lib.ListN.{length, length-map}
+use Rattle.lists.specs.Bits.{bytesOf}
 use Rattle.lists.proofs.Bools.{both, cond-by}
 use Rattle.parity.specs.Cells.{dataCell, answerCell, identityCell, writeByte, offeredByte, stopCell, broadcastRead}
 use Rattle.slots.specs.declared.Facts.{Facts}
@@ -25,9 +26,10 @@ use Rattle.machine.specs.Moments.{idle, direct, listening, offering}
 use Rattle.machine.specs.Moments as moments
 use Rattle.machine.specs.Steps.{did, identityOf, onward, onwardCell, roundRule, roundAnswer, listened, acceptedRows, accepted, declined, offeredAnswer, directAnswer}
 use Rattle.machine.specs.Steps as steps
-use Rattle.told.specs.Told.{Offer, bytesOf, tenEach, commandChosen}
+use Rattle.machine.proofs.Bytes.{bytes-back}
+use Rattle.told.specs.Told.{Offer, tenEach, commandChosen}
 use Rattle.reader.proofs.Cells.{identity-taken, new-taken, new-back}
-use Rattle.told.proofs.Bytes.{bytes-back, round-read, byte-answered, ninth-answered, header-fits, header-address, header-answered, offered-small, offered-fits}
+use Rattle.told.proofs.Bytes.{round-read, byte-answered, ninth-answered, header-fits, header-address, header-answered, offered-small, offered-fits}
 use Rattle.told.proofs.Stands.{none-left, joiningOf, at-direct, at-round, at-listening, at-offered, at-idle, hearing, said, Leads}
 
 -- ---- the cells

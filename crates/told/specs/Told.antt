@@ -1,10 +1,11 @@
 -- What was done by the calls of a record: a Begin or a Join, and then answers and identities until the machine is idle again.
-use Prim.Native.Nat.{ℕ, zero, suc, _/_, _%_}
+use Prim.Native.Nat.{ℕ}
 use mathlib.Core.Bool.{Bool, true, false, cond, not, _&&_, _||_}
 use mathlib.Core.List.{List, [], _∷_, _++_}
 use mathlib.Core.Option.{Option, none, some, Option·getD}
 use lib.Dec.{eqb}
 use lib.ListN.{length}
+use Rattle.lists.specs.Bits.{bytesOf}
 use Rattle.parity.specs.Cells.{offeredByte}
 use Rattle.readings.specs.declared.Joining.{Joining}
 use Rattle.readings.specs.declared.Command.{Command}
@@ -86,11 +87,6 @@ offerOf m (some heard) = record { identity = m .identity; address = m .offered; 
 abbrev pub offersMade : List Call → Machine → List Offer
 offersMade [] m = []
 offersMade (c ∷ cs) m = offerOf m (takenAt Offered c m) ++ offersMade cs (after c m)
-
--- the lowest so many bytes of a number, highest first
-unfoldable pub bytesOf : ℕ → ℕ → List ℕ
-bytesOf zero n = []
-bytesOf (suc k) n = bytesOf k (n / 256) ++ (n % 256 ∷ [])
 
 -- ten bytes for each: identity, address byte, 0 accepted or 1 refused
 abbrev pub tenEach : List Offer → List ℕ
