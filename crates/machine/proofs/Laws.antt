@@ -25,8 +25,8 @@ use Rattle.machine.specs.declared.did.Did.{Did}
 use Rattle.machine.specs.declared.Stepped.{Stepped}
 use Rattle.machine.specs.declared.Moment.{Moment}
 use Rattle.machine.specs.declared.Moment.the-variants.{Offered, Direct}
-use Rattle.machine.specs.Moments.{idle, offering, rightAt, momentRight, machineRight, isListening}
-use Rattle.machine.specs.Refusals.{stepRefusal, identityRefusal, askRefusal}
+use Rattle.machine.specs.Moments.{idle, offering, rightAt, momentRight, machineRight, isIdle, isListening}
+use Rattle.machine.specs.Refusals.{stepRefusal, restRefusal, identityRefusal, askRefusal}
 use Rattle.machine.specs.Steps.{Step, refuse, addressOf, identityOf, listened, assignedRow, acceptedRows, answerAt}
 use Rattle.machine.specs.Calls.{unless, started, asked, stepped, laid}
 
@@ -67,6 +67,40 @@ step-passed room m {r} {x} {more} e z p = go (ltb room 8) (machineRight m) e
     go true right e = absurd (omega arith)
     go false false e = absurd (omega arith)
     go false true e = p
+
+-- what a call for idle asks first that is lent no cells
+module _ (m : Machine) {right : Bool} (e : right ≡ machineRight m) where
+  pub rest-broken : not right ≡ true → 28 ≡ restRefusal m 0
+  unfolding restRefusal
+  rest-broken h = rw (← e, h)
+
+  module _ {rests : Bool} (h : not right ≡ false) (i : rests ≡ isIdle (m .moment)) where
+    pub rest-moving : not rests ≡ true → 10 ≡ restRefusal m 0
+    unfolding restRefusal
+    rest-moving j = rw (← e, h, ← i, j)
+
+    pub rest-resting : not rests ≡ false → 0 ≡ restRefusal m 0
+    unfolding restRefusal
+    rest-resting j = rw (← e, h, ← i, j)
+
+-- the same as above of such a call
+pub rest-refused : (m : Machine) (more : ℕ) {r : ℕ} → r ≡ restRefusal m 0 → (r ≡ 0 → ⊥) → r ≡ restRefusal m more
+unfolding restRefusal
+rest-refused m more {r} e n = go (machineRight m) (isIdle (m .moment)) e
+  where
+    go : (right rests : Bool) → r ≡ cond (not right) 28 (cond (not rests) 10 0) → r ≡ cond (not right) 28 (cond (not rests) 10 more)
+    go false rests e = e
+    go true false e = e
+    go true true e = absurd (n e)
+
+pub rest-passed : (m : Machine) {r x more : ℕ} → r ≡ restRefusal m 0 → r ≡ 0 → x ≡ more → x ≡ restRefusal m more
+unfolding restRefusal
+rest-passed m {r} {x} {more} e z p = go (machineRight m) (isIdle (m .moment)) e
+  where
+    go : (right rests : Bool) → r ≡ cond (not right) 28 (cond (not rests) 10 0) → x ≡ cond (not right) 28 (cond (not rests) 10 more)
+    go false rests e = absurd (omega arith)
+    go true false e = absurd (omega arith)
+    go true true e = p
 
 -- a call that is refused, and one that is not
 pub call-refused : (m : Machine) (s : Step) {k r : ℕ} {d : Did} → r ≡ k → (r ≡ 0 → ⊥) → d ≡ laid (refuse m r) → d ≡ laid (unless k m s)

@@ -21,6 +21,12 @@ stepRefusal room m more =
 abbrev pub idleRefusal : Machine → ℕ → ℕ
 idleRefusal m more = cond (not (isIdle (m .moment))) 10 more
 
+-- the same behind a broken machine: what retiring asks first, and a bench run behind its cells
+unfoldable pub restRefusal : Machine → ℕ → ℕ
+restRefusal m more =
+    cond (not (machineRight m)) 28
+    (idleRefusal m more)
+
 -- ---- each call
 
 unfoldable pub beginRefusal : Machine → ℕ → ℕ → ℕ → ℕ → ℕ → ℕ
@@ -43,9 +49,7 @@ giveUpRefusal m room = stepRefusal room m (cond (isIdle (m .moment)) 10 0)
 
 -- retiring is for idle; it is lent no cells
 unfoldable pub retireRefusal : Machine → ℕ → ℕ
-retireRefusal m ticket =
-    cond (not (machineRight m)) 28
-    (idleRefusal m (ticketRefusal (m .facts) (m .rows) ticket))
+retireRefusal m ticket = restRefusal m (ticketRefusal (m .facts) (m .rows) ticket)
 
 -- asking is for any moment
 unfoldable pub askRefusal : Machine → ℕ → ℕ

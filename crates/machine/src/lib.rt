@@ -12,6 +12,7 @@ ghost use mathlib.Core.List.{_++_};
 ghost use Prim.Native.Nat.{_≤_};
 ghost use lib.ListN.{length, take, drop};
 ghost use Rattle.slots.specs.Slots.{factsOf};
+ghost use Rattle.machine.specs.Refusals.{restRefusal};
 ghost use Rattle.machine.specs.Calls.{givenUp, started, retired, asked, stepped, written, laid};
 ghost use Rattle.machine.specs.Calls.{begun as Calls·begun, answered as Calls·answered, identified as Calls·identified, joined as Calls·joined};
 
@@ -220,6 +221,13 @@ impl Machine {
     {
         let step = joined(self, choice, cells.len());
         emit(step, cells)
+    }
+
+    // What it is refused for that is for idle, before more is asked: 28 if it breaks the rules, 10 if it is at another moment, else 0.
+    pub fn rest_refusal(self) -> u8
+        ensures { λ r. ⌜ r ≡ restRefusal self 0 ⌝ }
+    {
+        refusals::rest_refusal(self)
     }
 
     // Removes the row of a ticket, at idle.

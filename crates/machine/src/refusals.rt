@@ -1,7 +1,7 @@
 // The refusals of each call, in their order, 0 for none.
 ghost use mathlib.Core.Path.{_≡_};
 ghost use mathlib.Core.Bool.{cond};
-ghost use Rattle.machine.specs.Refusals.{stepRefusal, beginRefusal, joinRefusal, identityRefusal, giveUpRefusal, retireRefusal, askRefusal};
+ghost use Rattle.machine.specs.Refusals.{stepRefusal, restRefusal, beginRefusal, joinRefusal, identityRefusal, giveUpRefusal, retireRefusal, askRefusal};
 use crate::BROKEN_MACHINE;
 use crate::Machine;
 use crate::TOO_FEW_CELLS;
@@ -87,14 +87,25 @@ pub fn give_up_refusal(m: Machine, room: usize) -> u8
     0
 }
 
-pub fn retire_refusal(m: Machine, ticket: u32) -> u8
-    ensures { λ r. ⌜ r ≡ retireRefusal m ticket ⌝ }
+// What retiring asks first, and a bench run behind its cells: a machine that keeps the rules, and is idle.
+pub fn rest_refusal(m: Machine) -> u8
+    ensures { λ r. ⌜ r ≡ restRefusal m 0 ⌝ }
 {
     if !moments::machine_right(m) {
         return BROKEN_MACHINE;
     }
     if !moments::is_idle(m) {
         return WRONG_MOMENT;
+    }
+    0
+}
+
+pub fn retire_refusal(m: Machine, ticket: u32) -> u8
+    ensures { λ r. ⌜ r ≡ retireRefusal m ticket ⌝ }
+{
+    let refusal = rest_refusal(m);
+    if refusal != 0 {
+        return refusal;
     }
     let f = m.facts;
     let rows = m.rows;
