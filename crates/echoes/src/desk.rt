@@ -1,8 +1,10 @@
 // What lies before the reader and the writer: a record, a buffer of offers, and how much of what they are lent.
-ghost use Prim.Native.Nat.{_≤_};
 use lines::cells::BLANK_CELL;
 use lines::numbers::Numbers;
+use lines::numbers::at_most;
 use lines::numbers::byte;
+use lines::numbers::cell;
+use lines::numbers::size;
 
 // The record is the first `length` cells. Of the bytes the reader is lent `room` and the writer `span`; of its own cells the writer is lent `lent`.
 pub struct Desk {
@@ -16,13 +18,6 @@ pub struct Desk {
 
 // What every byte is before a call.
 pub const BLANK_BYTE: u8 = 170;
-
-// A number, or the most that it may be.
-pub fn at_most(number: usize, most: usize) -> usize
-    ensures { λ r. ⌜ r ≤ most ⌝ }
-{
-    if number < most { number } else { most }
-}
 
 impl Desk {
     // No record, a blank buffer, and all of it lent.
@@ -123,20 +118,6 @@ impl Desk {
         let place = length - 11;
         if place < 1100 { cells[place] } else { 0 }
     }
-}
-
-// A number of the script as a size or a place.
-pub fn size(number: u64) -> usize {
-    if number < 65536 {
-        number as usize
-    } else {
-        65535
-    }
-}
-
-// A number of the script as a cell.
-pub fn cell(number: u64) -> u16 {
-    if number < 65536 { number as u16 } else { 65535 }
 }
 
 // The desk with these numbers behind the record, as cells.

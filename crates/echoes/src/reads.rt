@@ -3,11 +3,11 @@ use crate::came;
 use crate::came::Came;
 use crate::desk::BLANK_BYTE;
 use crate::desk::Desk;
-use crate::desk::at_most;
-use crate::desk::cell;
 use crate::same;
 use crate::writes;
 use lines::numbers::Numbers;
+use lines::numbers::at_most;
+use lines::numbers::cell;
 use reader::Answer;
 
 // ---- a record, and what it says

@@ -1,6 +1,6 @@
 // Whether two records are the same, and whether bytes are still blank.
 use crate::desk::BLANK_BYTE;
-use crate::desk::at_most;
+use lines::numbers::at_most;
 
 // Whether two records of so many cells are the same.
 pub fn cells(a: &[u16; 1100], b: &[u16; 1100], count: usize) -> bool {

@@ -1,11 +1,11 @@
 // The writer, as a line of the script calls it.
 use crate::came::Came;
 use crate::desk::Desk;
-use crate::desk::at_most;
 use crate::same;
 use lines::cells::BLANK_CELL;
 use lines::cells::blank_from;
 use lines::numbers::Numbers;
+use lines::numbers::at_most;
 use lines::numbers::byte;
 use readings::Command;
 use readings::Joining;

@@ -1,4 +1,5 @@
 // Numbers as the script writes them, decimal, or hexadecimal with an h behind: 9, 09h.
+ghost use Prim.Native.Nat.{_≤_};
 use libc::STDOUT_FILENO;
 
 // Up to 24 numbers, in the first `count` places. No line of the script has as many.
@@ -194,6 +195,27 @@ pub fn ticket(number: u64) -> u32 {
 // A number as a place or a count.
 pub fn place(number: u64) -> usize {
     if number < 256 { number as usize } else { 255 }
+}
+
+// A number as a size, or a place in many.
+pub fn size(number: u64) -> usize {
+    if number < 65536 {
+        number as usize
+    } else {
+        65535
+    }
+}
+
+// A number as a cell.
+pub fn cell(number: u64) -> u16 {
+    if number < 65536 { number as u16 } else { 65535 }
+}
+
+// A size, or the most that it may be.
+pub fn at_most(size: usize, most: usize) -> usize
+    ensures { λ r. ⌜ r ≤ most ⌝ }
+{
+    if size < most { size } else { most }
 }
 
 // The numbers from a place on, as bytes.

@@ -2,9 +2,9 @@
 ghost use Prim.Native.Nat.{_≤_};
 use crate::came;
 use crate::came::Came;
-use crate::looks;
 use lines::cells::BLANK_CELL;
 use lines::numbers::Numbers;
+use lines::numbers::at_most;
 use lines::numbers::byte;
 use lines::numbers::bytes_from;
 use lines::numbers::place;
@@ -35,13 +35,6 @@ pub fn play(m: Machine, letter: u8, given: Numbers, lent: usize) -> Came {
 
 // ---- the calls
 
-// How many of twelve cells are lent.
-fn room(lent: usize) -> usize
-    ensures { λ r. ⌜ r ≤ 12 ⌝ }
-{
-    if lent < 12 { lent } else { 12 }
-}
-
 // How many numbers there are from a place on.
 fn count_from(numbers: Numbers, first: usize) -> usize
     ensures { λ r. ⌜ r ≤ 24 ⌝ }
@@ -69,7 +62,7 @@ fn start(given: Numbers) -> Came {
 // `begin CHOICE STATIC NEW TICKET`.
 fn begin(m: Machine, given: Numbers, lent: usize) -> Came {
     let mut cells = [BLANK_CELL; 12];
-    let n = room(lent);
+    let n = at_most(lent, 12);
     let choice = byte(given.at(0));
     let from = byte(given.at(1));
     let new = byte(given.at(2));
@@ -81,7 +74,7 @@ fn begin(m: Machine, given: Numbers, lent: usize) -> Came {
 // `heard` and `nobody`.
 fn answer(m: Machine, heard: bool, lent: usize) -> Came {
     let mut cells = [BLANK_CELL; 12];
-    let n = room(lent);
+    let n = at_most(lent, 12);
     let done = m.answer(heard, &mut cells[0..n]);
     came::stepped(m, done, cells)
 }
@@ -91,7 +84,7 @@ fn identity(m: Machine, given: Numbers, lent: usize) -> Came {
     let bytes = bytes_from(given, 0);
     let many = count_from(given, 0);
     let mut cells = [BLANK_CELL; 12];
-    let n = room(lent);
+    let n = at_most(lent, 12);
     let done = m.identity(&bytes[0..many], &mut cells[0..n]);
     came::stepped(m, done, cells)
 }
@@ -99,7 +92,7 @@ fn identity(m: Machine, given: Numbers, lent: usize) -> Came {
 // `up`.
 fn give_up(m: Machine, lent: usize) -> Came {
     let mut cells = [BLANK_CELL; 12];
-    let n = room(lent);
+    let n = at_most(lent, 12);
     let done = m.give_up(&mut cells[0..n]);
     came::stepped(m, done, cells)
 }
@@ -107,7 +100,7 @@ fn give_up(m: Machine, lent: usize) -> Came {
 // `join CHOICE`.
 fn join(m: Machine, choice: u8, lent: usize) -> Came {
     let mut cells = [BLANK_CELL; 12];
-    let n = room(lent);
+    let n = at_most(lent, 12);
     let done = m.join(choice, &mut cells[0..n]);
     came::stepped(m, done, cells)
 }

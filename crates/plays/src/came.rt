@@ -1,9 +1,9 @@
 // What a line of the script came to.
-use crate::same;
 use libc::STDOUT_FILENO;
 use lines::cells::blank_from;
 use lines::groups::Group;
 use lines::numbers::Numbers;
+use looks::same;
 use machine::Machine;
 use machine::Stepped;
 

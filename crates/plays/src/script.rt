@@ -1,7 +1,6 @@
 // The script, line by line.
 ghost use Prim.Native.Nat.{_≤_};
 ghost use lib.ListN.{length};
-use crate::by_hand;
 use crate::calls;
 use crate::came;
 use crate::shapes;
@@ -10,6 +9,7 @@ use lines::numbers::place;
 use lines::text::line_end;
 use lines::words;
 use lines::words::Line;
+use looks::by_hand;
 use machine::Machine;
 
 // Where the script stands: the machine, how many cells its calls are lent, and the group.

@@ -4,6 +4,7 @@ use lines::shapes::HowMany;
 use lines::shapes::between;
 use lines::shapes::fits;
 use lines::words::Line;
+use looks::by_hand;
 
 // How many numbers a line has before the sign, by its letter. For a letter that is no line's there is no number that fits.
 fn how_many(letter: u8) -> HowMany {
@@ -11,20 +12,16 @@ fn how_many(letter: u8) -> HowMany {
         b's' => between(2, 23),
         b'b' => between(4, 4),
         b'i' => between(0, 23),
-        b'c' | b'L' => between(2, 2),
+        b'c' => between(2, 2),
         b'j' | b'r' | b'q' | b't' | b'l' => between(1, 1),
-        b'M' | b'C' | b'A' | b'W' | b'I' | b'O' | b'S' | b'F' | b'T' => between(1, 1),
-        b'R' => between(6, 6),
         b'h' | b'n' | b'u' | b'm' | b'f' | b'd' => between(0, 0),
-        _ => between(1, 0),
+        _ => by_hand::how_many(letter),
     }
 }
 
 const BYTE: u64 = 255;
 
 const TICKET: u64 = 4294967295;
-
-const IDENTITY: u64 = 18446744073709551615;
 
 // The highest number at each place of a line, the last one for the places behind it too.
 fn highest(letter: u8) -> Numbers {
@@ -34,18 +31,10 @@ fn highest(letter: u8) -> Numbers {
         b'b' => byte.with(BYTE).with(BYTE).with(TICKET),
         b'c' => Numbers::one(65535),
         b'l' => Numbers::one(12),
-        b'r' | b'q' | b'T' => Numbers::one(TICKET),
-        b'M' => Numbers::one(5),
-        b'I' => Numbers::one(IDENTITY),
-        b'R' => highest_of_row(),
-        _ => byte,
+        b'r' | b'q' => Numbers::one(TICKET),
+        b'i' | b'j' | b't' => byte,
+        _ => by_hand::highest(letter),
     }
-}
-
-// The highest numbers of a row: place, address, ticket, mark "identity unknown", identity, static address.
-fn highest_of_row() -> Numbers {
-    let known = Numbers::one(BYTE).with(BYTE).with(TICKET);
-    known.with(BYTE).with(IDENTITY).with(BYTE)
 }
 
 // Whether a line of this letter comes to something: it is a call or a look. A capital letter and `lent` only change what the next ones meet.

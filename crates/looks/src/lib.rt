@@ -1,4 +1,7 @@
-// What stands in a machine, as numbers.
+// What stands in a machine, as numbers, for a program that plays a script; whether two machines are the same; and a machine made by hand.
+pub mod by_hand;
+pub mod same;
+
 use lines::numbers::Numbers;
 use machine::Machine;
 use machine::Moment;

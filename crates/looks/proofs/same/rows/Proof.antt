@@ -1,8 +1,8 @@
--- `plays::same::rows` is safe, and ends after 32 places.
+-- `looks::same::rows` is safe, and ends after 32 places.
 use Prim.Native.Nat.{_-_, _≤_}
 use borrow.Author.Needs.{needs}
-use Rattle.plays.proofs.same.rows.Statement.{statement}
-use Rattle.plays.proofs.same.rows.Tie as tie
+use Rattle.looks.proofs.same.rows.Statement.{statement}
+use Rattle.looks.proofs.same.rows.Tie as tie
 
 abbrev Inv-loop : tie.InvT-loop
 Inv-loop a b i₀ i = i ≤ 32

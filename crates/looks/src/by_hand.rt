@@ -3,6 +3,8 @@ use lines::numbers::Numbers;
 use lines::numbers::byte;
 use lines::numbers::place;
 use lines::numbers::ticket;
+use lines::shapes::HowMany;
+use lines::shapes::between;
 use machine::Machine;
 use machine::Moment;
 use rows::Row;
@@ -114,4 +116,39 @@ fn with_row(m: Machine, given: Numbers) -> Machine {
     let mut next = m;
     next.rows = rows;
     next
+}
+
+// ---- the numbers of a line that changes a machine by hand
+
+const BYTE: u64 = 255;
+
+const TICKET: u64 = 4294967295;
+
+const IDENTITY: u64 = 18446744073709551615;
+
+// How many there are, by its letter. For a letter that is no such line's there is no number that fits.
+pub fn how_many(letter: u8) -> HowMany {
+    match letter {
+        b'M' | b'C' | b'A' | b'W' | b'I' | b'O' | b'S' | b'F' | b'T' => between(1, 1),
+        b'L' => between(2, 2),
+        b'R' => between(6, 6),
+        _ => between(1, 0),
+    }
+}
+
+// The highest at each place, the last one for the places behind it too.
+pub fn highest(letter: u8) -> Numbers {
+    match letter {
+        b'M' => Numbers::one(5),
+        b'T' => Numbers::one(TICKET),
+        b'I' => Numbers::one(IDENTITY),
+        b'R' => highest_of_row(),
+        _ => Numbers::one(BYTE),
+    }
+}
+
+// The highest numbers of a row: place, address, ticket, mark "identity unknown", identity, static address.
+fn highest_of_row() -> Numbers {
+    let known = Numbers::one(BYTE).with(BYTE).with(TICKET);
+    known.with(BYTE).with(IDENTITY).with(BYTE)
 }
