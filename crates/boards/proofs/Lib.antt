@@ -1,0 +1,5 @@
+pub mod Lowest
+pub mod Plainly
+pub mod Together
+pub mod Behind
+pub mod Turns
