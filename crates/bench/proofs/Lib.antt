@@ -1,0 +1,12 @@
+pub mod Scenes
+pub mod Steps
+pub mod Rounds
+pub mod Same
+pub mod Counts
+pub mod Lent
+pub mod Places
+pub mod Keeping
+pub mod Playing
+pub mod Refused
+pub mod Given
+pub mod Benched
