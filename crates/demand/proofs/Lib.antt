@@ -1,0 +1,11 @@
+pub mod Waiting
+pub mod Falls
+pub mod Rises
+pub mod Fair
+pub mod Flips
+pub mod Endings
+pub mod Record
+pub mod Runs
+pub mod ReadBack
+pub mod ByCalls
+pub mod Demand
