@@ -1,0 +1,49 @@
+// What a line of the script came to.
+use crate::setup::Setup;
+use libc::STDOUT_FILENO;
+use lines::groups::Group;
+use lines::numbers::Numbers;
+
+// What the next run is given, the numbers to compare with what the script says, whether no cell behind those written was touched, and whether
+// machine and boards kept what they had to.
+pub struct Came {
+    pub setup: Setup,
+    pub numbers: Numbers,
+    pub untouched: bool,
+    pub kept: bool,
+}
+
+// What a line came to that has no cells.
+pub fn seen(setup: Setup, numbers: Numbers) -> Came {
+    Came {
+        setup,
+        numbers,
+        untouched: true,
+        kept: true,
+    }
+}
+
+// Compares it with what the script says, and counts it in the group. A wrong one is printed.
+pub fn compared(came: Came, said: Numbers, group: Group) -> Group {
+    let numbers = came.numbers;
+    let right = numbers.same(said) & came.untouched & came.kept;
+    if !right {
+        group.print_number();
+        print(came);
+    }
+    group.counted(right)
+}
+
+// Prints what a line came to.
+fn print(came: Came) {
+    let numbers = came.numbers;
+    io::write_all(STDOUT_FILENO, b" came to");
+    numbers.print();
+    if !came.untouched {
+        io::write_all(STDOUT_FILENO, b", and wrote behind its cells");
+    }
+    if !came.kept {
+        io::write_all(STDOUT_FILENO, b", and changed what had to stay");
+    }
+    io::write_all(STDOUT_FILENO, b"\n");
+}
