@@ -1,17 +1,17 @@
 -- What is asked of a run on the bench: theorems about the run on the wire.
 use Prim.Native.Nat.{ℕ, zero, suc, _+_, _*_, _<_, _≤_}
-use mathlib.Core.Path.{_≡_, refl, sym, subst}
+use mathlib.Core.Path.{_≡_, refl, sym, ap, subst}
 use mathlib.Core.Bool.{Bool, true, false, cond, not}
 use mathlib.Core.List.{List, [], map}
-use mathlib.Core.Logic.{_⊎_}
 use native.Mathlib.Omega.{arith}
-use lib.Dec.{ltb}
+use lib.Dec.{eqb, ltb}
 use lib.ListN.{length, getD, take, drop, length-take}
 use Rattle.lists.specs.Lists.{any, count, pairwise}
 use Rattle.begins.specs.Begins.{assignRefusal}
 use Rattle.reader.specs.Read.{says, answerTo, offersTo}
 use Rattle.machine.specs.declared.Machine.{Machine}
 use Rattle.machine.specs.Moments.{machineRight, isIdle}
+use Rattle.machine.proofs.Laws.{rest-resting}
 use Rattle.told.specs.Told.{tenEach}
 use Rattle.boards.specs.declared.Board.{Board}
 use Rattle.boards.specs.Wire.{waits}
@@ -22,9 +22,10 @@ use Rattle.bench.specs.Plain.{plain}
 use Rattle.bench.specs.Runs.{refusalOf, ran, placed, benched, benchCells}
 use Rattle.bench.proofs.Same.{idle-stays, wire-plain}
 use Rattle.bench.proofs.Counts as counts
+use Rattle.bench.proofs.Refused.{begin-asked}
 use Rattle.bench.proofs.Benched.{allowed}
 use Rattle.demand.specs.Demand.{MayRun, FairRounds, acceptedIn, answersIn, twoRefused, ByCalls, offerIn, readingOf}
-use Rattle.demand.proofs.Runs.{plain-fair, plain-rises, plain-few, plain-idle, plain-right, plain-by-flips, plain-served, plain-refused, plain-says, plain-ended}
+use Rattle.demand.proofs.Runs.{plain-fair, plain-rises, plain-few, plain-idle, plain-right, plain-by-flips, plain-served, plain-refused, plain-says, plain-ended, plain-nobody}
 use Rattle.demand.proofs.ReadBack.{plain-read}
 use Rattle.demand.proofs.ByCalls.{plain-by-calls}
 
@@ -80,7 +81,7 @@ module _ (room : ℕ) (m : Machine) (bs : List Board) (ks : List ℕ) (lent : 10
   unfolding onWire
   more-rounds-on n = more-same room 65 (65 + n) ks (opened room m bs) (omega arith) ends-idle
 
-  -- the i-th answered round is accepted exactly if the i-th flip is none: 8, or behind the end of the list
+  -- the i-th answered round is accepted exactly if the i-th flip is of no bit: 8 or above, or behind the end of the list
   pub by-flips : let rounds = onWire room m bs ks .rounds in
       (i : ℕ) → i < length rounds → getD (answersIn rounds) i false ≡ not (ltb (getD ks i 8) 8)
   by-flips =
@@ -94,15 +95,19 @@ module _ (room : ℕ) (m : Machine) (bs : List Board) (ks : List ℕ) (lent : 10
   pub two-refused : onWire room m bs ks .ending ≡ 1 → twoRefused (answersIn (onWire room m bs ks .rounds)) ≡ true
   two-refused = as-plain (λ p. p .ending ≡ 1 → twoRefused (answersIn (p .rounds)) ≡ true) (plain-refused m ks bs may)
 
-  -- endings 2, 3, 4: Begin would now be refused with 5, 6, 7
+  -- endings 2, 3, 4: Begin for assign would now be refused with 5, 6, 7
   pub table-ended : let p = onWire room m bs ks in
       2 ≤ p .ending → p .ending ≤ 4 → assignRefusal (p .machine .facts) (p .machine .rows) ≡ p .ending + 3
   table-ended =
       as-plain (λ p. 2 ≤ p .ending → p .ending ≤ 4 → assignRefusal (p .machine .facts) (p .machine .rows) ≡ p .ending + 3) (plain-says m ks bs may)
 
-  -- there is no other but 5, which is for no boards alone
-  pub other-ending : (onWire room m bs ks .ending ≤ 4) ⊎ ((bs ≡ []) × (onWire room m bs ks .ending ≡ 5))
-  other-ending = as-plain (λ p. (p .ending ≤ 4) ⊎ ((bs ≡ []) × (p .ending ≡ 5))) (plain-ended m ks bs may)
+  -- ending 5: exactly where there are no boards
+  pub no-boards : eqb (onWire room m bs ks .ending) 5 ≡ eqb (length bs) 0
+  no-boards = as-plain (λ p. eqb (p .ending) 5 ≡ eqb (length bs) 0) (plain-nobody m ks bs may)
+
+  -- there is no other
+  pub no-other : onWire room m bs ks .ending ≤ 5
+  no-other = as-plain (λ p. p .ending ≤ 5) (plain-ended m ks bs may)
 
   -- its record fits in 1,024 cells
   pub short : length (onWire room m bs ks .cells) ≤ 1024
@@ -128,6 +133,13 @@ module _ (room : ℕ) (m : Machine) (bs : List Board) (ks : List ℕ) (lent : 10
   by-calls = as-plain (ByCalls m) (plain-by-calls m ks bs may)
 
 -- ---- the bench's own runs
+
+-- what may run is not refused, with 1,024 cells lent, addresses of seven bits and flips of 0 to 8
+pub run-taken : (m : Machine) (boards : List Board) (n : ℕ) (flips : List ℕ) (room : ℕ) → MayRun m (take n boards) → 1024 ≤ room → n ≤ 32
+    → any (λ (b : Board). ltb 127 (b .address)) (take n boards) ≡ false → any (ltb 8) flips ≡ false → refusalOf m boards n flips room ≡ 0
+run-taken m boards n flips room may lent few low tame =
+    let rests = sym (rest-resting m refl (ap not (may .right)) refl (ap not (may .idles))) in
+    sym (begin-asked m (take n boards) n flips room lent refl rests few refl low refl tame (sym (may .begins)))
 
 module _ (m : Machine) (boards : List Board) (n : ℕ) (flips : List ℕ) (room : ℕ) (taken : refusalOf m boards n flips room ≡ 0)
     (wide : areWide (take n boards) ≡ true) where

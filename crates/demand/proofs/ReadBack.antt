@@ -35,7 +35,7 @@ use Rattle.demand.proofs.Runs.{first-runs}
 -- ---- the calls go on
 
 -- each of a run's does
-calls-go : (rounds : List Round) (ending : ℕ) → all goesOn (callsOf rounds ending) ≡ true
+pub calls-go : (rounds : List Round) (ending : ℕ) → all goesOn (callsOf rounds ending) ≡ true
 calls-go [] ending = go (eqb ending 0)
   where
     go : (b : Bool) → all goesOn (cond b (answer false 8 ∷ []) []) ≡ true

@@ -1,12 +1,12 @@
 -- A run by the plain rule, from where it may begin: what holds of every run from a scene on holds of it.
-use Prim.Native.Nat.{ℕ, _+_, _*_, _<_, _≤_}
-use mathlib.Core.Path.{_≡_, refl}
+use Prim.Native.Nat.{ℕ, suc, _+_, _*_, _<_, _≤_}
+use mathlib.Core.Path.{_≡_, refl, sym, _∙_}
 use mathlib.Core.Bool.{true, false, not}
 use mathlib.Core.List.{List, [], _∷_}
-use mathlib.Core.Logic.{_⊎_, inl, inr}
 use native.Mathlib.Omega.{arith}
-use lib.Dec.{ltb}
+use lib.Dec.{eqb, ltb}
 use lib.ListN.{length, getD}
+use borrow.Author.Tests.{ne-eqb}
 use Rattle.lists.specs.Lists.{any, count, pairwise}
 use Rattle.lists.proofs.Keeps.{count-le}
 use Rattle.begins.specs.Begins.{assignRefusal}
@@ -95,8 +95,18 @@ module _ (m : Machine) (ks : List ℕ) where
   plain-says [] may h k = absurd (omega arith)
   plain-says (b ∷ bs) may h k = first-runs m (b ∷ bs) ks may _ run-says h
 
-  -- ending 5 is for no boards alone
-  pub plain-ended : (bs : List Board) → MayRun m bs → (plain m bs ks .ending ≤ 4) ⊎ ((bs ≡ []) × (plain m bs ks .ending ≡ 5))
+  -- there are six endings
+  pub plain-ended : (bs : List Board) → MayRun m bs → plain m bs ks .ending ≤ 5
   unfolding plain
-  plain-ended [] may = inr (refl, refl)
-  plain-ended (b ∷ bs) may = inl (first-runs m (b ∷ bs) ks may _ run-ended)
+  plain-ended [] may = omega arith
+  plain-ended (b ∷ bs) may = omega (arith, first-runs m (b ∷ bs) ks may _ run-ended)
+
+  -- and 5 is exactly for no boards
+  pub plain-nobody : (bs : List Board) → MayRun m bs → eqb (plain m bs ks .ending) 5 ≡ eqb (length bs) 0
+  unfolding plain
+  plain-nobody [] may = refl
+  plain-nobody (b ∷ bs) may =
+      let few = first-runs m (b ∷ bs) ks may _ run-ended in
+      let p = plainRounds 65 ks (atFirst m (b ∷ bs)) in
+      ne-eqb (p .ending) 5 (λ (e : p .ending ≡ 5). omega (arith, few, e))
+      ∙ sym (ne-eqb (suc (length bs)) 0 (λ (e : suc (length bs) ≡ 0). omega arith))

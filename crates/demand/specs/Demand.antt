@@ -5,7 +5,7 @@ use mathlib.Core.Bool.{Bool, true, false, cond, not, _&&_}
 use mathlib.Core.List.{List, [], _∷_, map}
 use lib.Dec.{eqb}
 use lib.ListN.{length}
-use Rattle.lists.specs.Lists.{any}
+use Rattle.lists.specs.Lists.{any, all}
 use Rattle.lists.specs.Numbers.{within}
 use Rattle.begins.specs.Begins.{assignRefusal}
 use Rattle.boards.specs.declared.Board.{Board}
@@ -17,7 +17,7 @@ use Rattle.readings.specs.declared.Command.the-variants as commands
 use Rattle.readings.specs.declared.Reading.{Reading}
 use Rattle.readings.specs.Readings.{bare, assigned}
 use Rattle.life.specs.Life.{Call, begin, afterAll}
-use Rattle.told.specs.Told.{Offer, cellsOver}
+use Rattle.told.specs.Told.{Offer, goesOn, cellsOver}
 use Rattle.bench.specs.Play.{Round, Play}
 
 -- ---- where a run may begin
@@ -37,8 +37,8 @@ pub record IsSmallest (id : ℕ) (bs : List Board) : Type 0 where
   pub borne : any (bears id) bs ≡ true
   pub least : noneBelow id bs ≡ true
 
--- an answered round: it goes to that identity, which is offered an address, not 0 and of seven bits; its bearers without one take it together, or refuse
--- it together
+-- an answered round: it goes to that identity; what it is offered is not 0, so that who takes it has an address, and of seven bits; its bearers without
+-- one take it together, or refuse it together
 pub record Fair (r : Round) : Type 0 where
   pub smallest : IsSmallest (r .identity) (r .before)
   pub real : within 0x01 0x7F (r .address) ≡ true
@@ -54,7 +54,7 @@ abbrev pub acceptedIn : List Round → List ℕ
 acceptedIn [] = []
 acceptedIn (r ∷ rs) = cond (r .accepted) (r .identity ∷ acceptedIn rs) (acceptedIn rs)
 
--- whether each was accepted
+-- whether each round's offer was accepted
 abbrev pub answersIn : List Round → List Bool
 answersIn rs = map (λ (r : Round). r .accepted) rs
 
@@ -67,9 +67,11 @@ twoRefused (a ∷ b ∷ c ∷ answers) = twoRefused (b ∷ c ∷ answers)
 
 -- ---- calls
 
--- the run is calls of a table's life: Begin for assign, and some behind it, come to its machine and write its cells
+-- the run is calls of a table's life: Begin for assign (choice 0, no addresses, no ticket), and calls behind it that carry its record on, none of them
+-- giving up, come to its machine and write its cells; each is lent 8 cells
 pub record ByCalls (m : Machine) (p : Play) : Type 0 where
   pub calls : List Call
+  pub on : all goesOn calls ≡ true
   pub machine : afterAll (begin 0 0 0 0 8 ∷ calls) m ≡ p .machine
   pub cells : cellsOver (begin 0 0 0 0 8 ∷ calls) m ≡ p .cells
 
