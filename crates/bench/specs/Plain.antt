@@ -70,7 +70,7 @@ roundFollows accepted s = cond accepted (canAssign (s .facts) (s .rows)) (ltb (s
 abbrev pub over : ℕ → List ℕ → Scene → Play
 over ending cells s = record { machine = idle (s .facts) (s .rows); boards = s .boards; cells = cells; rounds = []; ending = ending }
 
--- the run is not played on: there is no ending
+-- the run is not played on: no ending yet, so 0 stands there; a run that may begin never comes to this
 abbrev pub unfinished : Scene → Play
 unfinished s = record { machine = round (s .facts) (s .rows) (s .refusals); boards = s .boards; cells = []; rounds = []; ending = 0 }
 
