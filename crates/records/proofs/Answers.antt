@@ -11,7 +11,7 @@ use borrow.Author.Tests.{le-ltb}
 use Rattle.readings.specs.declared.Reading.{Reading}
 use Rattle.reader.specs.declared.Answer.{Answer}
 use Rattle.reader.specs.Points.{start}
-use Rattle.reader.specs.Read.{says, refused, breaks, from, answerTo}
+use Rattle.reader.specs.Read.{says, breaks, from, answerTo}
 use Rattle.reader.proofs.Bytes.{answer-within}
 use Rattle.writer.specs.Write.{writable, writeRefusal}
 use Rattle.records.specs.Records.{areBytes, Laid, ReadsAs, FirstBad}
