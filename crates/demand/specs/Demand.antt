@@ -67,8 +67,8 @@ twoRefused (a ∷ b ∷ c ∷ answers) = twoRefused (b ∷ c ∷ answers)
 
 -- ---- calls
 
--- the run is calls of a table's life: Begin for assign (choice 0, no addresses, no ticket), and calls behind it that carry its record on, none of them
--- giving up, come to its machine and write its cells; each is lent 8 cells
+-- the run is calls of a table's life: Begin for assign (choice 0, no addresses, no ticket, 8 cells lent), and behind it calls that carry its record on,
+-- none of them giving up, come to its machine and write its cells
 pub record ByCalls (m : Machine) (p : Play) : Type 0 where
   pub calls : List Call
   pub on : all goesOn calls ≡ true
