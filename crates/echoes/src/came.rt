@@ -1,6 +1,5 @@
 // What a line of the script came to.
 use crate::desk::Desk;
-use libc::STDOUT_FILENO;
 use lines::groups::Group;
 use lines::numbers::Numbers;
 
@@ -23,27 +22,14 @@ pub fn seen(desk: Desk, numbers: Numbers) -> Came {
     }
 }
 
-// Compares it with what the script says, and counts it in the group. A wrong one is printed.
+// Compares it with what the script says, and counts it in the group.
 pub fn compared(came: Came, said: Numbers, group: Group) -> Group {
     let numbers = came.numbers;
-    let right = numbers.same(said) & came.untouched & came.echoed;
-    if !right {
-        group.print_number();
-        print(came);
-    }
-    group.counted(right)
-}
-
-// Prints what a line came to.
-fn print(came: Came) {
-    let numbers = came.numbers;
-    io::write_all(STDOUT_FILENO, b" came to");
-    numbers.print();
     if !came.untouched {
-        io::write_all(STDOUT_FILENO, b", and touched what had to stay");
+        return group.compared(numbers, said, b", and touched what had to stay");
     }
     if !came.echoed {
-        io::write_all(STDOUT_FILENO, b", and was not written back");
+        return group.compared(numbers, said, b", and was not written back");
     }
-    io::write_all(STDOUT_FILENO, b"\n");
+    group.compared(numbers, said, b"")
 }

@@ -1,4 +1,5 @@
 // A group of a script's lines, and how many of its steps came out right.
+use crate::numbers::Numbers;
 use libc::STDOUT_FILENO;
 use tally::Tally;
 use tally::one_more;
@@ -40,8 +41,22 @@ impl Group {
         next
     }
 
-    // One step more has been compared, and was right or not.
-    pub fn counted(self, right: bool) -> Group {
+    // A step came to these numbers, where the script says others or the same; it is right if they are the same and it has no flaw. A wrong one is printed,
+    // with the words for its flaw.
+    pub fn compared(self, numbers: Numbers, said: Numbers, flaw: &[u8]) -> Group {
+        let right = numbers.same(said) & (flaw.len() == 0);
+        if !right {
+            self.print_number();
+            io::write_all(STDOUT_FILENO, b" came to");
+            numbers.print();
+            io::write_all(STDOUT_FILENO, flaw);
+            io::write_all(STDOUT_FILENO, b"\n");
+        }
+        self.counted(right)
+    }
+
+    // One step more, right or not.
+    fn counted(self, right: bool) -> Group {
         let tally = self.tally.with(right);
         let mut next = self;
         next.tally = tally;
@@ -55,8 +70,8 @@ impl Group {
         self.counted(false)
     }
 
-    // Prints the number of the line, above what the step came to.
-    pub fn print_number(self) {
+    // Prints the number of the line, before what the step came to.
+    fn print_number(self) {
         io::write_all(STDOUT_FILENO, b"  line ");
         io::print_decimal(STDOUT_FILENO, self.number as u64);
     }

@@ -1,5 +1,4 @@
 // What a line of the script came to.
-use libc::STDOUT_FILENO;
 use lines::cells::blank_from;
 use lines::groups::Group;
 use lines::numbers::Numbers;
@@ -56,27 +55,14 @@ pub fn seen(machine: Machine, numbers: Numbers) -> Came {
     }
 }
 
-// Compares it with what the script says, and counts it in the group. A wrong one is printed.
+// Compares it with what the script says, and counts it in the group.
 pub fn compared(came: Came, said: Numbers, group: Group) -> Group {
     let numbers = came.numbers;
-    let right = numbers.same(said) & came.untouched & came.kept;
-    if !right {
-        group.print_number();
-        print(came);
-    }
-    group.counted(right)
-}
-
-// Prints what a line came to.
-fn print(came: Came) {
-    let numbers = came.numbers;
-    io::write_all(STDOUT_FILENO, b" came to");
-    numbers.print();
     if !came.untouched {
-        io::write_all(STDOUT_FILENO, b", and wrote behind its cells");
+        return group.compared(numbers, said, b", and wrote behind its cells");
     }
     if !came.kept {
-        io::write_all(STDOUT_FILENO, b", and changed the machine");
+        return group.compared(numbers, said, b", and changed the machine");
     }
-    io::write_all(STDOUT_FILENO, b"\n");
+    group.compared(numbers, said, b"")
 }

@@ -1,6 +1,5 @@
 // What a line of the script came to.
 use crate::setup::Setup;
-use libc::STDOUT_FILENO;
 use lines::groups::Group;
 use lines::numbers::Numbers;
 
@@ -23,27 +22,14 @@ pub fn seen(setup: Setup, numbers: Numbers) -> Came {
     }
 }
 
-// Compares it with what the script says, and counts it in the group. A wrong one is printed.
+// Compares it with what the script says, and counts it in the group.
 pub fn compared(came: Came, said: Numbers, group: Group) -> Group {
     let numbers = came.numbers;
-    let right = numbers.same(said) & came.untouched & came.kept;
-    if !right {
-        group.print_number();
-        print(came);
-    }
-    group.counted(right)
-}
-
-// Prints what a line came to.
-fn print(came: Came) {
-    let numbers = came.numbers;
-    io::write_all(STDOUT_FILENO, b" came to");
-    numbers.print();
     if !came.untouched {
-        io::write_all(STDOUT_FILENO, b", and wrote behind its cells");
+        return group.compared(numbers, said, b", and wrote behind its cells");
     }
     if !came.kept {
-        io::write_all(STDOUT_FILENO, b", and changed what had to stay");
+        return group.compared(numbers, said, b", and changed what had to stay");
     }
-    io::write_all(STDOUT_FILENO, b"\n");
+    group.compared(numbers, said, b"")
 }
