@@ -3,6 +3,7 @@ pub mod Steps
 pub mod Rounds
 pub mod Same
 pub mod Counts
+pub mod Ends
 pub mod Lent
 pub mod Places
 pub mod Keeping

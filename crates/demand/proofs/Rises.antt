@@ -1,4 +1,4 @@
--- What holds of every run by the plain rule: its rounds are few, it ends idle and right, accepted identities rise, and with ending 0 nobody waits.
+-- What holds of every run by the plain rule: its rounds are few, it ends idle, accepted identities rise, and with ending 0 nobody waits.
 use Prim.Native.Nat.{ℕ, suc, _≤_}
 use mathlib.Core.Path.{_≡_, refl}
 use mathlib.Core.Bool.{Bool, true, false, cond}
@@ -12,14 +12,13 @@ use Rattle.lists.proofs.Bools.{and}
 use Rattle.slots.specs.declared.Facts.{Facts}
 use Rattle.rows.specs.declared.Row.{Row}
 use Rattle.free.specs.Free.{full, noFreeAddress}
-use Rattle.machine.specs.Moments.{machineRight, isIdle}
-use Rattle.life.proofs.Sound.{idle-right}
+use Rattle.machine.specs.Moments.{isIdle}
 use Rattle.boards.specs.Wire.{waits}
 use Rattle.boards.specs.Plain.{noneBelow}
 use Rattle.boards.proofs.Plainly.{smallest-borne, smallest-least}
 use Rattle.bench.specs.Play.{Play, flipNow, tableEnding, offerEnding}
 use Rattle.bench.specs.Plain.{Scene, winner, offerFor, accepts, sceneAfter}
-use Rattle.bench.proofs.Scenes.{good-says, offer-above-zero, idle-after}
+use Rattle.bench.proofs.Scenes.{offer-above-zero}
 use Rattle.demand.specs.Demand.{acceptedIn}
 use Rattle.demand.proofs.Waiting.{borne-from, still-from, larger-from}
 use Rattle.demand.proofs.Falls.{Going, left, one-left, falls, Ways}
@@ -47,17 +46,6 @@ pub run-idle : Ways Idles
 run-idle = record {
   at-silence = λ ks s going e. refl;
   at-last = λ ks s going e f. refl;
-  in-front = λ ks s going e f p h. h;
-}
-
--- and keeps the rules
-abbrev Right : List ℕ → Scene → Play → Type 0
-Right ks s p = machineRight (p .machine) ≡ true
-
-pub run-right : Ways Right
-run-right = record {
-  at-silence = λ ks s going e. idle-right (s .facts) (s .rows) (good-says s (going .right) .table);
-  at-last = λ ks s going e f. idle-after (flipNow ks) s (going .right);
   in-front = λ ks s going e f p h. h;
 }
 

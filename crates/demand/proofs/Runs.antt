@@ -12,15 +12,15 @@ use Rattle.lists.proofs.Keeps.{count-le}
 use Rattle.begins.specs.Begins.{assignRefusal}
 use Rattle.machine.specs.declared.Machine.{Machine}
 use Rattle.machine.specs.Moments.{machineRight, isIdle}
-use Rattle.life.proofs.Sound.{right-says, idle-right}
 use Rattle.boards.specs.declared.Board.{Board}
 use Rattle.boards.specs.Wire.{waits}
 use Rattle.bench.specs.Play.{Play}
 use Rattle.bench.specs.Plain.{Scene, plainRounds, atFirst, plain}
 use Rattle.bench.proofs.Scenes.{first-good}
+use Rattle.bench.proofs.Ends.{plain-ends-right}
 use Rattle.demand.specs.Demand.{MayRun, FairRounds, acceptedIn, answersIn, twoRefused}
 use Rattle.demand.proofs.Falls.{Going, left, Ways, runs}
-use Rattle.demand.proofs.Rises.{rounds-few, run-idle, run-right, run-served, run-rises}
+use Rattle.demand.proofs.Rises.{rounds-few, run-idle, run-served, run-rises}
 use Rattle.demand.proofs.Fair.{run-fair}
 use Rattle.demand.proofs.Flips.{run-by-flips}
 use Rattle.demand.proofs.Endings.{run-ended, run-says, run-refused}
@@ -65,9 +65,7 @@ module _ (m : Machine) (ks : List ℕ) where
 
   -- and right
   pub plain-right : (bs : List Board) → MayRun m bs → machineRight (plain m bs ks .machine) ≡ true
-  unfolding plain
-  plain-right [] may = idle-right (m .facts) (m .rows) (right-says m (may .right) .0)
-  plain-right (b ∷ bs) may = first-runs m (b ∷ bs) ks may _ run-right
+  plain-right bs may = plain-ends-right m bs ks (may .right) (may .begins)
 
   -- where it ends for a silent round header, every board has an address
   pub plain-served : (bs : List Board) → MayRun m bs → plain m bs ks .ending ≡ 0 → any waits (plain m bs ks .boards) ≡ false
