@@ -11,7 +11,7 @@ use Rattle.listing.specs.Text.{text, hex, decimal}
 unfoldable pub header : List ℕ
 header = text "addr ticket identity\n"
 
--- a row: its address in two hex digits, its ticket, a number of 32 bits, in decimal, its identity in sixteen hex digits
+-- a row: its address in two hex digits, its ticket (32 bits, so at most 10 digits) in decimal, its identity in sixteen hex digits
 unfoldable pub rowLine : Row → List ℕ
 rowLine r = hex 2 (r .address) ++ (text " " ++ (decimal 10 (r .ticket) ++ (text " " ++ (hex 16 (r .identity) ++ text "\n"))))
 
@@ -20,7 +20,7 @@ unfoldable pub rowLines : List Row → List ℕ
 rowLines [] = []
 rowLines (r ∷ rs) = cond (inUse r) (rowLine r) [] ++ rowLines rs
 
--- then ending, answered rounds, clocks: numbers of 64 bits
+-- then ending, answered rounds, clocks: 64 bits, so at most 20 digits
 unfoldable pub endLine : ℕ → ℕ → ℕ → List ℕ
 endLine ending rounds clocks =
     text "end " ++ (decimal 20 ending ++ (text " rounds " ++ (decimal 20 rounds ++ (text " clocks " ++ (decimal 20 clocks ++ text "\n")))))
@@ -28,10 +28,10 @@ endLine ending rounds clocks =
 unfoldable pub listing : List Row → ℕ → ℕ → ℕ → List ℕ
 listing rows ending rounds clocks = header ++ (rowLines rows ++ endLine ending rounds clocks)
 
--- what stands in the place of a listing after a refusal
+-- what is printed in the place of a listing after a refusal
 unfoldable pub refusalLine : ℕ → List ℕ
 refusalLine refusal = text "refused " ++ (decimal 20 refusal ++ text "\n")
 
--- it is written where at least 1,100 bytes are lent, else nothing is
+-- either is written where the 1,100 bytes of a sheet run are lent, else nothing is
 abbrev pub lent : ℕ → List ℕ → List ℕ
 lent room written = cond (ltb room 1100) [] written

@@ -7,7 +7,7 @@ use mathlib.Core.Bool.{cond}
 use mathlib.Core.List.{List, [], _∷_, _++_}
 use lib.Dec.{ltb}
 
--- the bytes of a text: the code of each of its characters
+-- the bytes of a text in ASCII: the code of each of its characters
 abbrev pub text : String → List ℕ
 text empty = []
 text (c before cs) = code c ∷ text cs

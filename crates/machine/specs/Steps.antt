@@ -113,11 +113,12 @@ roundAnswer m heard =
 
 -- ---- listening
 
--- the number of identity bytes, highest first (six of the Provisioned ID, BCR, DCR), behind the number so far
+-- the number that bytes make, highest first, behind the number so far
 abbrev pub digits : ℕ → List ℕ → ℕ
 digits n [] = n
 digits n (byte ∷ bytes) = digits (n * 256 + byte) bytes
 
+-- an identity's bytes: six of the Provisioned ID, BCR, DCR
 abbrev pub identityOf : List ℕ → ℕ
 identityOf bytes = digits 0 bytes
 

@@ -1,17 +1,20 @@
 -- Laws of what is printed for a sheet.
-use Prim.Native.Nat.{ℕ, _≤_}
-use mathlib.Core.Path.{_≡_, sym, ap, _∙_}
+use Prim.Native.Nat.{ℕ, _<_, _≤_}
+use mathlib.Core.Path.{_≡_, refl, sym, ap, _∙_}
+use mathlib.Core.Bool.{Bool, true, false}
 use mathlib.Core.List.{List}
 use native.Mathlib.Omega.{arith}
-use lib.Dec.{eqb}
+use lib.Dec.{eqb, leb}
 use lib.ListN.{length, take, length-take}
-use borrow.Author.Tests.{ne-eqb}
+use lib.Seq.{take-all}
+use borrow.Author.Tests.{lt-leb, leb-true, leb-false, ne-eqb}
 use Rattle.lists.specs.Buffers.{lay}
 use Rattle.lists.proofs.Bools.{cond-by}
 use Rattle.lists.proofs.Buffers.{lay-length}
 use Rattle.listing.specs.Listing.{refusalLine, lent}
 use Rattle.listing.proofs.Lines.{refusal-short}
 use Rattle.sheet.specs.declared.SheetRan.{SheetRan}
+use Rattle.sheet.specs.Sheet.{sheetRight}
 use Rattle.sheet.specs.Runs.{sheetRefusal, sheetText, sheetRan}
 use Rattle.sheet.proofs.Theorems.{at-most}
 use Rattle.rackrun.specs.Answers.{answer}
@@ -22,6 +25,21 @@ unfolding answer
 answer-short sheet =
     let refusal = sheetRefusal sheet 1100 in
     cond-by (λ (l : List ℕ). length l ≤ 1100) (eqb refusal 0) (λ _. at-most sheet 1100) (λ _. omega (arith, refusal-short refusal))
+
+-- over 512 bytes it is the line of refusal 18
+too-long : (sheet : List ℕ) → 512 < length sheet → answer sheet ≡ refusalLine 18
+unfolding answer sheetRefusal sheetRight
+too-long sheet h = rw (lt-leb (length sheet) 512 h)
+
+-- so the first 513 bytes of an input are answered as the whole of it is
+pub enough-read : (input : List ℕ) → answer (take 513 input) ≡ answer input
+enough-read input = go (leb (length input) 512) refl
+  where
+    go : (b : Bool) → leb (length input) 512 ≡ b → answer (take 513 input) ≡ answer input
+    go true e = ap answer (take-all 513 input (omega (arith, leb-true (length input) 512 e)))
+    go false e =
+        let long : 512 < length input = leb-false (length input) 512 e in
+        too-long (take 513 input) (omega (arith, length-take 513 input)) ∙ sym (too-long input long)
 
 -- a number, and the lent bytes as they then stand, are those of what is printed
 abbrev Prints : List ℕ → List ℕ → ℕ → List ℕ → Type 0

@@ -6,6 +6,6 @@ use lib.Dec.{eqb}
 use Rattle.listing.specs.Listing.{refusalLine}
 use Rattle.sheet.specs.Runs.{sheetRefusal, sheetText}
 
--- with the 1,100 bytes that a listing needs
+-- with the 1,100 bytes that a sheet run must be lent
 unfoldable pub answer : List ℕ → List ℕ
 answer sheet = cond (eqb (sheetRefusal sheet 1100) 0) (sheetText sheet 1100) (refusalLine (sheetRefusal sheet 1100))

@@ -40,12 +40,13 @@ entries-none sheet count i h = let e : count - i ≡ 0 = omega arith in rw e
 
 -- no body is longer than 64 bytes
 length-small : (kind long : ℕ) → lengthRight kind long ≡ true → long ≤ 64
-length-small kind long h = go (eqb kind 1) (eqb kind 2) h
+length-small kind long h = go (eqb kind 1) (eqb kind 2) (eqb kind 3) h
   where
-    go : (a b : Bool) → cond a (eqb long 21) (cond b (eqb long 8) (leb long 64)) ≡ true → long ≤ 64
-    go true b h = omega (arith, eqb-true long 21 h)
-    go false true h = omega (arith, eqb-true long 8 h)
-    go false false h = leb-true long 64 h
+    go : (a b c : Bool) → cond a (eqb long 21) (cond b (eqb long 8) (c && leb long 64)) ≡ true → long ≤ 64
+    go true b c h = omega (arith, eqb-true long 21 h)
+    go false true c h = omega (arith, eqb-true long 8 h)
+    go false false true h = leb-true long 64 h
+    go false false false h = absurd (false≢true h)
 
 -- the parts of a right entry
 pub entry-parts : (count place due : ℕ) (e : Entry) → entryRight count place due e ≡ true

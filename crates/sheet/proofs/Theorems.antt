@@ -2,7 +2,7 @@
 use Prim.Native.Nat.{ℕ, _≤_}
 use mathlib.Core.Path.{_≡_, refl, sym, ap, _∙_}
 use mathlib.Core.Bool.{Bool, true, false, not, _&&_, _||_}
-use mathlib.Core.List.{List}
+use mathlib.Core.List.{List, []}
 use native.Mathlib.Omega.{arith}
 use lib.Dec.{eqb, ltb}
 use lib.ListN.{length, take}
@@ -118,8 +118,8 @@ at-most sheet room =
     lines.fits (p .machine .rows) (p .ending) (roundsIn (p .cells)) (clocksIn (p .cells)) (omega (arith, long)))
     (λ _. omega arith)
 
--- a refused run hands back its refusal, and no length
+-- a refused run writes nothing, and hands back its refusal and no length
 pub refused-nothing : (sheet : List ℕ) (room : ℕ) → (sheetRefusal sheet room ≡ 0 → ⊥)
-    → sheetRan sheet room ≡ record { length = 0; refusal = sheetRefusal sheet room }
+    → (sheetText sheet room ≡ []) × (sheetRan sheet room ≡ record { length = 0; refusal = sheetRefusal sheet room })
 unfolding sheetRan sheetText
-refused-nothing sheet room n = rw (ne-eqb (sheetRefusal sheet room) 0 n)
+refused-nothing sheet room n = rw (ne-eqb (sheetRefusal sheet room) 0 n) (refl, refl)

@@ -13,7 +13,7 @@ use Rattle.sheet.specs.declared.contents.Entry.{Entry}
 
 -- ---- the contents table
 
--- a byte of the sheet; 0 behind its end, where no right sheet is read
+-- a byte of the sheet, and 0 behind its end; a table that is cut off is never right, since its bodies would end behind the file
 abbrev pub byteAt : List ℕ → ℕ → ℕ
 byteAt sheet place = getD sheet place 0
 
@@ -44,15 +44,15 @@ bodiesBegin sheet = 4 * entryCount sheet + 1
 abbrev pub kindRight : ℕ → ℕ → ℕ → Bool
 kindRight count place kind = cond (eqb place 0) (eqb kind 1) (eqb kind 2 || (eqb kind 3 && eqb (place + 1) count))
 
--- kind 1: 21 bytes; kind 2: 8 bytes; kind 3: 0 to 64
+-- kind 1: 21 bytes; kind 2: 8 bytes; kind 3: 0 to 64 bytes
 abbrev pub lengthRight : ℕ → ℕ → Bool
-lengthRight kind long = cond (eqb kind 1) (eqb long 21) (cond (eqb kind 2) (eqb long 8) (leb long 64))
+lengthRight kind long = cond (eqb kind 1) (eqb long 21) (cond (eqb kind 2) (eqb long 8) (eqb kind 3 && leb long 64))
 
--- an entry is right at its place, if its body begins where it is due
+-- an entry is right at its place if its kind, its length and its offset are: its body begins where it is due
 unfoldable pub entryRight : ℕ → ℕ → ℕ → Entry → Bool
 entryRight count place due e = kindRight count place (e .kind) && lengthRight (e .kind) (e .length) && eqb (e .offset) due
 
--- so are the entries from a place on: bodies follow in order without gaps and end the file
+-- the entries from a place on are right, and their bodies follow in order without gaps and end the file
 unfoldable pub entriesRight : ℕ → ℕ → ℕ → ℕ → List Entry → Bool
 entriesRight size count place due [] = eqb due size
 entriesRight size count place due (e ∷ es) = entryRight count place due e && entriesRight size count (suc place) (due + e .length) es
@@ -75,7 +75,7 @@ unfoldable pub bodiesOf : ℕ → List ℕ → List Entry → List (List ℕ)
 bodiesOf kind sheet [] = []
 bodiesOf kind sheet (e ∷ es) = cond (eqb (e .kind) kind) (bodyOf sheet e ∷ bodiesOf kind sheet es) (bodiesOf kind sheet es)
 
--- kind 1, the first: flags, legacy set (16 bytes), last ticket high byte first
+-- kind 1, which stands first: flags, legacy set (16 bytes), last ticket high byte first
 abbrev pub factsOfBody : List ℕ → Facts
 factsOfBody body = factsOf (getD body 0 0) (take 16 (drop 1 body)) (digits 0 (drop 17 body))
 
@@ -97,6 +97,7 @@ firstBody (body ∷ bodies) = body
 unfoldable pub flipsIn : List ℕ → List ℕ
 flipsIn sheet = firstBody (bodiesOf 3 sheet (entries sheet))
 
--- boards by value: in the first of 32 places, and nothing behind them
+-- ---- boards by value, as the bench takes them: in the first of 32 places, and nothing behind them
+
 abbrev pub inPlaces : List Board → List Board
 inPlaces bs = bs ++ replicate (32 - length bs) (record { identity = 0; address = 0 })

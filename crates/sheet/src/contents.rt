@@ -69,7 +69,7 @@ fn length_right(kind: u8, long: usize) -> bool
     } else if kind == BOARD {
         long == BOARD_BYTES
     } else {
-        long <= FLIPS_BYTES
+        (kind == FLIPS) & (long <= FLIPS_BYTES)
     }
 }
 
