@@ -9,8 +9,7 @@ use lib.Dec.{eqb, leb}
 use lib.ListN.{length, length-append}
 use lib.Pow.{pow-pos}
 use borrow.Author.Tests.{eqb-true, eqb-false, le-leb}
-use Rattle.lists.specs.Bits.{bit, bytesOf}
-use Rattle.lists.specs.Lists.{all}
+use Rattle.lists.specs.Bits.{bit, areBytes, bytesOf}
 use Rattle.lists.proofs.Keeps.{all-snoc}
 
 -- ---- bits
@@ -50,7 +49,7 @@ bytes-long zero n = refl
 bytes-long (suc k) n = rw (length-append, bytes-long k (n / 256)) (omega arith)
 
 -- each is of eight bits
-pub bytes-small : (k n : ℕ) → all (λ b. leb b 255) (bytesOf k n) ≡ true
+pub bytes-small : (k n : ℕ) → areBytes (bytesOf k n) ≡ true
 unfolding bytesOf
 bytes-small zero n = refl
 bytes-small (suc k) n = all-snoc (λ b. leb b 255) (n % 256) (le-leb (n % 256) 255 (omega arith)) (bytesOf k (n / 256)) (bytes-small k (n / 256))

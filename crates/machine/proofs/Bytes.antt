@@ -10,8 +10,7 @@ use lib.Dec.{leb}
 use lib.ListN.{length, getD, drop, set, drop-of-length-le, length-map, List·getD-map}
 use lib.Seq.{take-all}
 use borrow.Author.Tests.{leb-true}
-use Rattle.lists.specs.Bits.{bytesOf}
-use Rattle.lists.specs.Lists.{all}
+use Rattle.lists.specs.Bits.{areBytes, bytesOf}
 use Rattle.lists.proofs.Bools.{both}
 use Rattle.lists.proofs.Edits.{Filled, filled-turn, filled-ended}
 use Rattle.lists.proofs.Lists.{drop-step}
@@ -41,18 +40,18 @@ byte-off : (n b : ℕ) → b ≤ 255 → ((n * 256 + b) / 256 ≡ n) × ((n * 25
 byte-off n b h = omega arith
 
 -- the bytes of the number of bytes, behind those of another
-bytes-behind : (bytes : List ℕ) (i n k : ℕ) → all (λ b. leb b 255) bytes ≡ true → i + length bytes ≡ k
+bytes-behind : (bytes : List ℕ) (i n k : ℕ) → areBytes bytes ≡ true → i + length bytes ≡ k
     → bytesOf k (digits n bytes) ≡ bytesOf i n ++ bytes
 unfolding bytesOf
 bytes-behind [] i n k h e = let z : k ≡ i = omega arith in rw z (sym (append-nil (bytesOf i n)))
 bytes-behind (b ∷ bs) i n k h e =
-    let t = both (leb b 255) (all (λ c. leb c 255) bs) h in
+    let t = both (leb b 255) (areBytes bs) h in
     let o = byte-off n b (leb-true b 255 (t .0)) in
     bytes-behind bs (suc i) (n * 256 + b) k (t .1) (omega arith)
     ∙ rw (o .0, o .1) (append-assoc (bytesOf i n) (b ∷ []) bs)
 
 -- eight bytes are those of their number
-pub bytes-back : (bytes : List ℕ) → length bytes ≡ 8 → all (λ b. leb b 255) bytes ≡ true → bytesOf 8 (identityOf bytes) ≡ bytes
+pub bytes-back : (bytes : List ℕ) → length bytes ≡ 8 → areBytes bytes ≡ true → bytesOf 8 (identityOf bytes) ≡ bytes
 unfolding bytesOf
 bytes-back bytes long h = bytes-behind bytes 0 0 8 h (omega arith)
 

@@ -14,7 +14,8 @@ use Rattle.reader.specs.Points.{start}
 use Rattle.reader.specs.Read.{says, breaks, from, answerTo}
 use Rattle.reader.proofs.Bytes.{answer-within}
 use Rattle.writer.specs.Write.{writable, writeRefusal}
-use Rattle.records.specs.Records.{areBytes, Laid, ReadsAs, FirstBad}
+use Rattle.lists.specs.Bits.{areBytes}
+use Rattle.records.specs.Records.{Laid, ReadsAs, FirstBad}
 use Rattle.records.proofs.Trips.{from-either, answer-is, answer-says, laid-accepted, accepted-laid, writable-reads, reads-writable}
 use Rattle.records.proofs.Place.{first-bad}
 

@@ -29,7 +29,8 @@ use Rattle.reader.specs.Points.{start, again, round, behind, header, byteOf, ni
 use Rattle.reader.specs.Read.{says, stopped, from, tenOf, tensOf, roundsAt, offersOf}
 use Rattle.reader.proofs.Cells.{pair-byte, pair-ninth, pair-is-byte, identity-taken, identity-back, write-ninth, write-taken, write-address, new-taken, new-back}
 use Rattle.reader.proofs.Bytes.{tens-length}
-use Rattle.records.specs.Records.{areBytes, ReadsAs}
+use Rattle.lists.specs.Bits.{areBytes}
+use Rattle.records.specs.Records.{ReadsAs}
 
 -- ---- the bytes behind the last offer don't matter
 

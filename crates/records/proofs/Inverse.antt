@@ -25,7 +25,7 @@ use Rattle.reader.specs.declared.Answer.{Answer}
 use Rattle.reader.specs.Points.{Point, Next, nowhere, to, over, start, opening, again, reopening, event, header, newAddress, round, offer, behind, ending, next, commanded, commandOf, isWriteByte, isNewAddress, isOffered, byteOf, ninthOf, addressIn, answeredIn}
 use Rattle.reader.specs.Read.{says, breaks, stopped, lead, from, cellAt, identityByte, tenOf, tensOf, offersOf}
 use Rattle.reader.proofs.Bytes.{tens-length}
-use Rattle.records.specs.Records.{areBytes}
+use Rattle.lists.specs.Bits.{areBytes}
 
 -- ---- cells made again from what is read of them
 

@@ -19,7 +19,8 @@ use Rattle.reader.specs.Points.{Point, Next, nowhere, to, over, start, next}
 use Rattle.reader.specs.Read.{says, refused, breaks, stopped, lead, from, offersOf, answerTo, offersTo}
 use Rattle.reader.proofs.Bytes.{answer-within}
 use Rattle.writer.specs.Write.{writable, writeRefusal, toWrite}
-use Rattle.records.specs.Records.{areBytes, Laid, ReadsAs}
+use Rattle.lists.specs.Bits.{areBytes}
+use Rattle.records.specs.Records.{Laid, ReadsAs}
 use Rattle.records.proofs.Inverse.{read-layout}
 use Rattle.records.proofs.Forward.{cells-prefix, layout-prefix, offers-length, layout-reads, layout-read}
 

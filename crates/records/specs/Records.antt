@@ -1,19 +1,14 @@
 -- What is shown of reader and writer: which cells are a record, what it reads as, and where cells that are none break.
 use Prim.Native.Nat.{ℕ, suc, _*_, _≤_, _<_}
 use mathlib.Core.Path.{_≡_}
-use mathlib.Core.Bool.{Bool, true}
+use mathlib.Core.Bool.{true}
 use mathlib.Core.List.{List, _++_}
-use lib.Dec.{leb}
 use lib.ListN.{length, take}
-use Rattle.lists.specs.Lists.{all}
+use Rattle.lists.specs.Bits.{areBytes}
 use Rattle.readings.specs.declared.Reading.{Reading}
 use Rattle.readings.specs.Layouts.{cellsOf, hasLayout}
 use Rattle.reader.specs.Points.{start}
 use Rattle.reader.specs.Read.{says, from, offersOf}
-
--- numbers of eight bits
-abbrev pub areBytes : List ℕ → Bool
-areBytes bytes = all (λ b. leb b 255) bytes
 
 -- the cells are a record: one of the layouts gives them
 pub record Laid (cells : List ℕ) : Type 0 where

@@ -7,6 +7,7 @@ use native.Mathlib.Omega.{arith}
 use lib.Dec.{eqb, ltb}
 use lib.ListN.{length, take}
 use borrow.Author.Tests.{ltb-false, le-ltb, eqb-true, ne-eqb, not-false}
+use Rattle.lists.specs.Bits.{areBytes}
 use Rattle.lists.specs.Lists.{pairwise}
 use Rattle.lists.proofs.Bools.{both, cond-by, not-refused}
 use Rattle.lists.proofs.Keeps.{pairwise-mono}
@@ -27,7 +28,7 @@ use Rattle.listing.specs.Listing.{header}
 use Rattle.listing.proofs.Lines as lines
 use Rattle.sheet.specs.Sheet.{sheetRight, factsIn, boardsIn, flipsIn}
 use Rattle.sheet.specs.Runs.{sheetRefusal, machineFor, runOf, listingOf, sheetText, sheetRan}
-use Rattle.sheet.proofs.Wide.{areBytes, boards-wide}
+use Rattle.sheet.proofs.Wide.{boards-wide}
 
 -- ---- rows
 

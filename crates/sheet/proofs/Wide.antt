@@ -1,14 +1,14 @@
 -- The body of a board is eight bytes, so its identity is of 64 bits.
 use Prim.Native.Nat.{ℕ, zero, suc, _+_, _*_, _^_, _<_, _≤_}
 use mathlib.Core.Path.{_≡_, refl, sym, subst}
-use mathlib.Core.Bool.{Bool, true}
+use mathlib.Core.Bool.{true}
 use mathlib.Core.List.{List, [], _∷_}
 use native.Mathlib.Nat.{pow-suc, pow-le-pow-right, zero-lt-suc}
 use native.Mathlib.Omega.{arith}
 use lib.Dec.{leb}
 use lib.ListN.{length, take, drop, length-take}
 use borrow.Author.Tests.{leb-true, lt-ltb}
-use Rattle.lists.specs.Lists.{all}
+use Rattle.lists.specs.Bits.{areBytes}
 use Rattle.lists.proofs.Bools.{both, and}
 use Rattle.lists.proofs.Keeps.{all-take, all-drop}
 use Rattle.boards.specs.declared.Board.{Board}
@@ -16,10 +16,6 @@ use Rattle.boards.specs.Plain.{areWide}
 use Rattle.machine.specs.Steps.{digits, identityOf}
 use Rattle.sheet.specs.Sheet.{sheetRight, bodiesBegin, boardsIn}
 use Rattle.sheet.proofs.Bodies.{boardsFrom, boards-lie}
-
--- numbers of eight bits
-abbrev pub areBytes : List ℕ → Bool
-areBytes bytes = all (λ b. leb b 255) bytes
 
 -- the number of bytes behind one of i bytes
 digits-small : (bytes : List ℕ) (i k n : ℕ) → areBytes bytes ≡ true → n < 256 ^ i → i + length bytes ≡ k → digits n bytes < 256 ^ k

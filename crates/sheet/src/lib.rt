@@ -34,13 +34,14 @@ const NO_BOARD: Board = Board {
     address: 0,
 };
 
+// A refused run.
 fn refused(refusal: u8) -> SheetRan
     ensures { λ r. ⌜ r ≡ record { length = 0; refusal = refusal } ⌝ }
 {
     SheetRan { length: 0, refusal }
 }
 
-// The machine that is started on the facts of a sheet.
+// The machine that is started on the facts of a sheet: a byte of flags, the 16 of the legacy set, the 4 of the last ticket.
 fn start(sheet: &[u8]) -> Stepped
     requires { ⌜ sheetRight (now sheet) ≡ true ⌝ }
     ensures { λ r. ⌜ r ≡ stepped (started (factsIn (now (sheet .entry)))) ⌝ }
@@ -61,7 +62,8 @@ fn boards(sheet: &[u8], count: usize) -> [Board; 32]
     let mut boards = [NO_BOARD; 32];
     let mut i: usize = 0;
     while i < count {
-        let identity = contents::number(sheet, first + contents::BOARD_BYTES * i, 8);
+        let at = first + contents::BOARD_BYTES * i;
+        let identity = contents::number(sheet, at, contents::BOARD_BYTES);
         boards[i] = Board {
             identity,
             address: 0,

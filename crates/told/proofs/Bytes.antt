@@ -14,7 +14,7 @@ use Rattle.parity.proofs.Laws.{odd-bit-lt, offer-taken}
 use Rattle.reader.specs.Points.{ninthOf, byteOf, addressIn, answeredIn, isWriteByte, isOffered}
 use Rattle.reader.specs.Read.{cellAt, identityByte, tenOf, tensOf}
 use Rattle.reader.proofs.Cells.{pair-byte, pair-ninth, pair-is-byte, identity-back, write-taken, write-address}
-use Rattle.records.specs.Records.{areBytes}
+use Rattle.lists.specs.Bits.{areBytes}
 
 -- ---- the ten bytes of an offer
 

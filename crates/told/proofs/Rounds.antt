@@ -8,7 +8,7 @@ use native.Mathlib.Nat.{add-zero}
 use native.Mathlib.Omega.{arith}
 use lib.Dec.{eqb, leb}
 use lib.ListN.{length, length-map}
-use Rattle.lists.specs.Bits.{bytesOf}
+use Rattle.lists.specs.Bits.{areBytes, bytesOf}
 use Rattle.lists.proofs.Bools.{both, cond-by}
 use Rattle.parity.specs.Cells.{dataCell, answerCell, identityCell, writeByte, offeredByte, stopCell, broadcastRead}
 use Rattle.slots.specs.declared.Facts.{Facts}
@@ -20,7 +20,6 @@ use Rattle.readings.specs.declared.Command.{Command}
 use Rattle.readings.specs.Readings.{directed, assigned}
 use Rattle.reader.specs.Points.{header, round, offer, next}
 use Rattle.reader.specs.Read.{stopped, from, tensOf}
-use Rattle.records.specs.Records.{areBytes}
 use Rattle.machine.specs.declared.Machine.{Machine}
 use Rattle.machine.specs.Moments.{idle, direct, listening, offering}
 use Rattle.machine.specs.Moments as moments

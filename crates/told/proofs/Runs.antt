@@ -13,7 +13,7 @@ use Rattle.machine.specs.declared.Moment.the-variants.{Opened, Round, Offered, 
 use Rattle.machine.specs.Moments.{machineRight, isListening}
 use Rattle.machine.specs.Steps.{listened, answerAt}
 use Rattle.reader.specs.Read.{tensOf}
-use Rattle.records.specs.Records.{areBytes}
+use Rattle.lists.specs.Bits.{areBytes}
 use Rattle.life.specs.Life.{Call, stepOf, after, afterAll}
 use Rattle.life.proofs.Sound.{right-says}
 use Rattle.told.specs.Told.{goOn, cellsOver, answerOf, takenAt, heardAt, offerOf, offersMade}

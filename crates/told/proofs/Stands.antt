@@ -22,7 +22,7 @@ use Rattle.readings.specs.Readings.{mayFollow}
 use Rattle.reader.specs.declared.Answer.{Answer}
 use Rattle.reader.specs.Points.{Point, Next, to, over, opening, reopening, header, round, offer}
 use Rattle.reader.specs.Read.{stopped, lead, from, tensOf}
-use Rattle.records.specs.Records.{areBytes}
+use Rattle.lists.specs.Bits.{areBytes}
 use Rattle.machine.specs.declared.Machine.{Machine}
 use Rattle.machine.specs.declared.Moment.{Moment}
 use Rattle.machine.specs.declared.Moment.the-variants.{Opened, Round, Offered, Direct}

@@ -5,14 +5,13 @@ use mathlib.Core.List.{List, [], _∷_, _++_}
 use mathlib.Core.Option.{Option, none, some, Option·getD}
 use lib.Dec.{eqb}
 use lib.ListN.{length}
-use Rattle.lists.specs.Bits.{bytesOf}
+use Rattle.lists.specs.Bits.{areBytes, bytesOf}
 use Rattle.parity.specs.Cells.{offeredByte}
 use Rattle.readings.specs.declared.Joining.{Joining}
 use Rattle.readings.specs.declared.Command.{Command}
 use Rattle.readings.specs.declared.Command.the-variants.{Assign, ResetAll, SetFromStatic, Move, Silence, Allow}
 use Rattle.readings.specs.declared.Command.the-variants as commands
 use Rattle.readings.specs.declared.Reading.{Reading}
-use Rattle.records.specs.Records.{areBytes}
 use Rattle.machine.specs.declared.Machine.{Machine}
 use Rattle.machine.specs.declared.Moment.{Moment}
 use Rattle.machine.specs.declared.Moment.the-variants.{Idle, Opened, Round, Listening, Offered, Direct}

@@ -22,11 +22,11 @@ add-first c = omega (arith, facts-inside _ (c .before .before .pre .0))
 loop-holds : tie.Need-loop-holds Inv-loop μ-loop
 loop-holds c = search place-start
 
-mul-number : tie.Need-mul-number Inv-loop μ-loop
-mul-number c = omega arith
+mul-at : tie.Need-mul-at Inv-loop μ-loop
+mul-at c = omega arith
 
-add-number : tie.Need-add-number Inv-loop μ-loop
-add-number c = omega (arith, place-inside (c .before .loop .inv) (c .loop-test .taken))
+add-at : tie.Need-add-at Inv-loop μ-loop
+add-at c = omega (arith, place-inside (c .before .loop .inv) (c .loop-test .taken))
 
 number-requires : tie.Need-number-requires Inv-loop μ-loop
 number-requires c κs = omega (arith, place-inside (c .before .loop .inv) (c .loop-test .taken))
@@ -58,8 +58,8 @@ boards-spec =
     bodies-requires
     add-first
     loop-holds
-    mul-number
-    add-number
+    mul-at
+    add-at
     number-requires
     mul-boards
     array-set-from-boards
