@@ -1,0 +1,81 @@
+// The bench, lent its boards as one list of any length. When a run is over they have the addresses that they took; a refused run leaves the list as it was.
+//
+// The list is copied into the 32 places of `bench::run`, which refuses and plays, and what it hands back is copied over the list.
+ghost use mathlib.Core.Path.{_≡_};
+ghost use lib.ListN.{length, take};
+ghost use Rattle.lists.specs.Buffers.{lay};
+ghost use Rattle.lent.specs.Runs.{reported, lentRun, lentCells, heldRun};
+
+mod copies;
+
+use bench::Ran;
+use boards::Board;
+use machine::Machine;
+
+// What a run over a lent list hands back: the machine, how many cells it wrote, its ending, the answered rounds and the clocks of these cells, and its
+// refusal, 0 for none. A refused run has 0 in every other number. The boards are in the list.
+pub struct Report {
+    pub machine: Machine,
+    pub count: usize,
+    pub ending: u8,
+    pub rounds: usize,
+    pub clocks: usize,
+    pub refusal: u8,
+}
+
+// What is reported of a run by value.
+fn report_of(ran: Ran) -> Report
+    ensures { λ r. ⌜ r ≡ reported ran ⌝ }
+{
+    let machine = ran.machine;
+    Report {
+        machine,
+        count: ran.count,
+        ending: ran.ending,
+        rounds: ran.rounds,
+        clocks: ran.clocks,
+        refusal: ran.refusal,
+    }
+}
+
+// One run over all boards of a list, as `bench::run` plays it. More than 32 are too many: 16.
+pub fn run(machine: Machine, boards: &mut [Board], flips: &[u8], cells: &mut [u16]) -> Report
+    ensures { λ r. ⌜ r ≡ reported (lentRun machine (now (boards .entry)) (now (flips .entry)) (length (now (cells .entry)))) ⌝ }
+    ensures { λ _. ⌜ now (boards .exit) ≡ lentRun machine (now (boards .entry)) (now (flips .entry)) (length (now (cells .entry))) .boards ⌝ }
+    ensures { λ _. ⌜ now (cells .exit) ≡ lay (lentCells machine (now (boards .entry)) (now (flips .entry)) (length (now (cells .entry)))) (now (cells .entry)) ⌝ }
+{
+    let count = boards.len();
+    let few = copies::at_most(count, 32);
+    let places = copies::load(boards, copies::no_boards(), few);
+    let ran = bench::run(machine, places, count, flips, cells);
+    copies::save(boards, ran.boards, few);
+    report_of(ran)
+}
+
+// What a run over boards of one's own hands back: the report, and the boards.
+pub struct Held {
+    pub report: Report,
+    pub boards: [Board; 40],
+}
+
+fn held_of(report: Report, boards: [Board; 40]) -> Held
+    ensures { λ r. ⌜ r ≡ record { report = report; boards = boards } ⌝ }
+{
+    Held { report, boards }
+}
+
+// The same for a caller that holds its boards by value: the first `count` of its 40 places are lent, and those behind them stay.
+pub fn run_held(
+    machine: Machine,
+    mut boards: [Board; 40],
+    count: usize,
+    flips: &[u8],
+    cells: &mut [u16],
+) -> Held
+    ensures { λ r. ⌜ r ≡ heldRun machine boards count (now (flips .entry)) (length (now (cells .entry))) ⌝ }
+    ensures { λ _. ⌜ now (cells .exit) ≡ lay (lentCells machine (take count boards) (now (flips .entry)) (length (now (cells .entry)))) (now (cells .entry)) ⌝ }
+{
+    let many = copies::at_most(count, 40);
+    let report = run(machine, &mut boards[..many], flips, cells);
+    held_of(report, boards)
+}
