@@ -33,10 +33,10 @@ pub record Allowed (m : Machine) (count room : ℕ) : Type 0 where
   pub few : count ≤ 32
   pub begins : assignRefusal (m .facts) (m .rows) ≡ 0
 
-pub allowed : (m : Machine) (boards : List Board) (count : ℕ) (flips : List ℕ) (room : ℕ) {refusal : ℕ} → refusal ≡ refusalOf m boards count flips room
+pub allowed : (m : Machine) (bs : List Board) (count : ℕ) (flips : List ℕ) (room : ℕ) {refusal : ℕ} → refusal ≡ runRefusal m bs count flips room
     → refusal ≡ 0 → Allowed m count room
 unfolding runRefusal restRefusal
-allowed m boards count flips room e z =
+allowed m bs count flips room e z =
     let t = simp not-refused at (sym e ∙ z) in
     record {
       enough = ltb-false room 1024 (t .0);
@@ -61,7 +61,7 @@ module _ (m : Machine) (boards : List Board) (count : ℕ) (flips buffer : List 
       (k : Keeps (drop count boards) buffer kept stand (onWire (length buffer) m (take count boards) flips)) where
     by-rule : Keeps (drop count boards) buffer kept stand (plain m (take count boards) flips)
     by-rule =
-        let a = allowed m boards count flips (length buffer) e z in
+        let a = allowed m (take count boards) count flips (length buffer) e z in
         subst (λ (p : Play). Keeps (drop count boards) buffer kept stand p)
         (wire-plain (length buffer) m (take count boards) flips (a .enough) (a .right) (a .rests) (a .begins) wide) k
 
@@ -91,7 +91,7 @@ module _ (m : Machine) (boards : List Board) (count : ℕ) (flips buffer : List 
         × (stand ≡ lay (benchCells m boards count flips (length buffer)) buffer)
     unfolding benched benchCells
     run-played {clocks} c =
-        let a = allowed m boards count flips (length buffer) e z in
+        let a = allowed m (take count boards) count flips (length buffer) e z in
         let counted = rounds-counted m (take count boards) flips (a .right) (a .begins) in
         let same : clocks ≡ clocksIn (plain m (take count boards) flips .cells) = c ∙ ap clocksIn run-cells in
         rw (sym e ∙ z) (

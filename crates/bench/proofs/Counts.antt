@@ -1,10 +1,10 @@
--- What the counters of a run say: as many answered round headers as answered rounds; and never more than 1,024 cells.
+-- What the counters of a run say: as many answered round headers as answered rounds, and never more than 1,024 cells; and as many boards as before.
 use Prim.Native.Nat.{ℕ, zero, suc, _+_, _*_, _≤_, _<_}
 use mathlib.Core.Path.{_≡_, refl, ap, _∙_}
 use mathlib.Core.Bool.{Bool, true, false, cond}
 use mathlib.Core.List.{List, [], _∷_, _++_, map, append-assoc}
 use native.Mathlib.Omega.{arith}
-use lib.ListN.{length, length-append}
+use lib.ListN.{length, length-append, length-map}
 use borrow.Author.Tests.{ne-eqb}
 use Rattle.lists.specs.Lists.{any}
 use Rattle.lists.specs.Bits.{bytesOf}
@@ -14,6 +14,7 @@ use Rattle.parity.proofs.Laws.{odd-bit-lt, offered-address}
 use Rattle.begins.specs.Begins.{assignRefusal}
 use Rattle.boards.specs.declared.Board.{Board}
 use Rattle.boards.specs.Wire.{waits}
+use Rattle.boards.specs.Plain.{given}
 use Rattle.machine.specs.declared.Machine.{Machine}
 use Rattle.machine.specs.Moments.{round, machineRight}
 use Rattle.bench.specs.Play.{Play, flipNow, flipsThen, roundsIn}
@@ -104,3 +105,29 @@ pub short : (m : Machine) (bs : List Board) (ks : List ℕ) → length (plain m 
 unfolding plain
 short m [] ks = omega arith
 short m (b ∷ bs) ks = omega (arith, plain-rounds-short 65 ks (atFirst m (b ∷ bs)))
+
+-- ---- the plain rule makes no board more or less
+
+-- an offer does not
+scene-long : (t : Bool) (s : Scene) → length (sceneAfter t s .boards) ≡ length (s .boards)
+unfolding given
+scene-long t s = cond-by (λ (s′ : Scene). length (s′ .boards) ≡ length (s .boards)) t (λ _. length-map (s .boards) _) (λ _. refl)
+
+-- nor do rounds
+rounds-long : (n : ℕ) (ks : List ℕ) (s : Scene) → length (plainRounds n ks s .boards) ≡ length (s .boards)
+unfolding plainRounds
+rounds-long zero ks s = refl
+rounds-long (suc n) ks s =
+    let t = accepts (flipNow ks) s in
+    let s′ = sceneAfter t s in
+    cond-by (λ (p : Play). length (p .boards) ≡ length (s .boards)) (any waits (s .boards))
+    (λ _.
+    cond-by (λ (p : Play). length (p .boards) ≡ length (s′ .boards)) (roundFollows t s′) (λ _. rounds-long n (flipsThen ks) s′) (λ _. refl)
+    ∙ scene-long t s)
+    (λ _. refl)
+
+-- nor does a run
+pub plain-long : (m : Machine) (bs : List Board) (ks : List ℕ) → length (plain m bs ks .boards) ≡ length bs
+unfolding plain
+plain-long m [] ks = refl
+plain-long m (b ∷ bs) ks = rounds-long 65 ks (atFirst m (b ∷ bs))

@@ -17,7 +17,7 @@ play-requires : tie.Need-play-requires
 play-requires c κs =
     let asks = c .before .before in
     let a = asks .before .before .before .args in
-    allowed (a .machine) (a .boards) (a .count) (a .flips .now) _ (asks .run-refusal .ensures) (c .before .if1 .left) .few
+    allowed (a .machine) _ (a .count) (a .flips .now) _ (asks .run-refusal .ensures) (c .before .if1 .left) .few
 
 slice-reshare-prefix-clocks : tie.Need-slice-reshare-prefix-clocks
 slice-reshare-prefix-clocks c = search needs
