@@ -26,6 +26,7 @@ module _ {M : Type 1} (𝓤 : URA M) where
   and-facts {φ} {Q} a q = via 𝓤 (fact 𝓤 φ) (one-fact a) (beside (fact 𝓤 φ) Q q)
 
 -- a goal P ∗ Q where Q is had for nothing: P is left
-pub says-all : {M : Type 1} {𝓤 : URA M} {H : Heap 𝓤} {A : Atoms 𝓤} {K : Type 0} {W : Given 𝓤 H A} {Γ : List (Item 𝓤)} → K → {P Q : SProp 𝓤} → ent 𝓤 (emp 𝓤) Q
+pub says-all : {M : Type 1} {𝓤 : URA M} {H : Heap 𝓤} {A : Atoms 𝓤} {K : Type 0} {W : Given 𝓤 H A} {Γ : List (Item 𝓤)} → K → {P Q : SProp 𝓤}
+    → ent 𝓤 (emp 𝓤) Q
     → Step K W Γ (prop P) Γ (prop (sep 𝓤 P Q))
 says-all {𝓤 = 𝓤} t {P} {Q} q = step (λ s. record { prf = via 𝓤 P (s .prf) (beside 𝓤 P Q q) })

@@ -1,8 +1,9 @@
 pub mod Fronts
 pub mod Runs
-mod Walk
+mod Locals
 mod Clauses
 mod Calls
+mod AtMost
 mod Shared
 mod Elems
 mod Local

@@ -1,38 +1,35 @@
 -- A run over a list is the run by value over its copy in 32 places; and what a run does with the boards that it was lent.
-use Prim.Native.Nat.{ℕ, zero, suc, _≤_, min}
+use Prim.Native.Nat.{ℕ, _≤_, min}
 use mathlib.Core.Path.{_≡_, refl, sym, ap, _∙_}
 use mathlib.Core.Bool.{Bool, true, false, cond}
-use mathlib.Core.List.{List, [], _∷_, append-nil}
+use mathlib.Core.List.{List, [], append-nil}
 use native.Mathlib.Omega.{arith}
 use lib.Dec.{eqb, ltb}
-use lib.ListN.{length, take, drop, replicate, length-map, length-take, take-append-drop}
+use lib.ListN.{length, take, drop, replicate, length-take, take-append-drop}
 use lib.Seq.{length-take-le, take-all, drop-length, take-at, take-append-seam, drop-append-seam}
 use borrow.Author.Tests.{ltb-false, eqb-true}
-use Rattle.lists.specs.Lists.{any}
 use Rattle.lists.specs.Buffers.{lay}
-use Rattle.lists.proofs.Bools.{cond-by}
 use Rattle.boards.specs.declared.Board.{Board}
-use Rattle.boards.specs.Wire.{waits}
-use Rattle.boards.specs.Plain.{given}
 use Rattle.machine.specs.declared.Machine.{Machine}
 use Rattle.bench.specs.declared.Ran.{Ran}
-use Rattle.bench.specs.Play.{Play, flipNow, flipsThen}
-use Rattle.bench.specs.Plain.{Scene, accepts, sceneAfter, roundFollows, plainRounds, atFirst, plain}
+use Rattle.bench.specs.Plain.{plain}
 use Rattle.bench.specs.Runs.{runRefusal, ran, refused, placed, refusalOf, benched, benchCells}
+use Rattle.bench.proofs.Counts.{plain-long}
 use Rattle.bench.proofs.Benched.{allowed}
-use Rattle.lent.specs.Runs.{lentRefusal, lentRun, lentCells, reported, noBoard}
+use Rattle.lent.specs.Runs.{lentRefusal, lentRun, lentCells, reported}
+use Rattle.lent.specs.Places.{noBoard}
 
 -- ---- the caller's own array
 
 module _ {A : Type 0} where
   -- no more of its places are lent than it has
-  pub held-front : (n most : ℕ) (xs : List A) → length xs ≡ most → take (min n most) xs ≡ take n xs
-  held-front n most xs e =
+  pub owned-front : (n most : ℕ) (xs : List A) → length xs ≡ most → take (min n most) xs ≡ take n xs
+  owned-front n most xs e =
       rw (← e, ← length-take n xs) (ap (take (length (take n xs))) (sym (take-append-drop n xs)) ∙ take-append-seam (take n xs) (drop n xs))
 
   -- and those behind them stay
-  pub held-rest : (n most : ℕ) (xs : List A) → length xs ≡ most → drop (min n most) xs ≡ drop n xs
-  held-rest n most xs e =
+  pub owned-rest : (n most : ℕ) (xs : List A) → length xs ≡ most → drop (min n most) xs ≡ drop n xs
+  owned-rest n most xs e =
       rw (← e, ← length-take n xs) (ap (drop (length (take n xs))) (sym (take-append-drop n xs)) ∙ drop-append-seam (take n xs) (drop n xs))
 
 -- ---- a list copied into 32 places
@@ -59,32 +56,6 @@ module _ (ys : List Board) where
   -- copied back, they leave the list as it was
   loaded-back : lay (take (min (length ys) 32) (loaded ys)) ys ≡ ys
   loaded-back = rw (loaded-front, few-long) (take-append-drop (min (length ys) 32) ys)
-
--- ---- the plain rule makes no board more or less
-
--- an offer does not
-scene-long : (t : Bool) (s : Scene) → length (sceneAfter t s .boards) ≡ length (s .boards)
-unfolding given
-scene-long t s = cond-by (λ (s′ : Scene). length (s′ .boards) ≡ length (s .boards)) t (λ _. length-map (s .boards) _) (λ _. refl)
-
--- nor do rounds
-rounds-long : (n : ℕ) (ks : List ℕ) (s : Scene) → length (plainRounds n ks s .boards) ≡ length (s .boards)
-unfolding plainRounds
-rounds-long zero ks s = refl
-rounds-long (suc n) ks s =
-    let t = accepts (flipNow ks) s in
-    let s′ = sceneAfter t s in
-    cond-by (λ (p : Play). length (p .boards) ≡ length (s .boards)) (any waits (s .boards))
-    (λ _.
-    cond-by (λ (p : Play). length (p .boards) ≡ length (s′ .boards)) (roundFollows t s′) (λ _. rounds-long n (flipsThen ks) s′) (λ _. refl)
-    ∙ scene-long t s)
-    (λ _. refl)
-
--- nor does a run
-plain-long : (m : Machine) (bs : List Board) (ks : List ℕ) → length (plain m bs ks .boards) ≡ length bs
-unfolding plain
-plain-long m [] ks = refl
-plain-long m (b ∷ bs) ks = rounds-long 65 ks (atFirst m (b ∷ bs))
 
 -- ---- the refusal
 
@@ -123,7 +94,7 @@ module _ (m : Machine) (ys : List Board) (flips : List ℕ) (room : ℕ) where
       rw same-refusal
       (cond-all P (eqb k 0)
       (λ e.
-      let few = allowed m (loaded ys) (length ys) flips room (sym same-refusal) (eqb-true k 0 e) .few in
+      let few = allowed m ys (length ys) flips room refl (eqb-true k 0 e) .few in
       rw (loaded-all ys few) (played few))
       (λ _. turned))
 

@@ -10,7 +10,7 @@ use Rattle.bench.specs.declared.Ran.{Ran}
 use Rattle.bench.specs.Plain.{plain}
 use Rattle.bench.specs.Runs.{runRefusal, ran, refused}
 use Rattle.lent.specs.declared.Report.{Report}
-use Rattle.lent.specs.declared.Held.{Held}
+use Rattle.lent.specs.declared.Owned.{Owned}
 
 -- ---- boards lent as one list, of any length
 
@@ -18,7 +18,7 @@ use Rattle.lent.specs.declared.Held.{Held}
 abbrev pub lentRefusal : Machine → List Board → List ℕ → ℕ → ℕ
 lentRefusal m boards flips room = runRefusal m boards (length boards) flips room
 
--- what comes of it: the plain rule's run, or machine and boards as given; its boards are those of the list at exit
+-- what comes of it: the plain rule's run, or machine and boards as given; its boards are the list at exit, as long as it was
 unfoldable pub lentRun : Machine → List Board → List ℕ → ℕ → Ran
 lentRun m boards flips room =
     cond (eqb (lentRefusal m boards flips room) 0) (ran (plain m boards flips)) (refused m boards (lentRefusal m boards flips room))
@@ -32,16 +32,14 @@ abbrev pub reported : Ran → Report
 reported r =
     record { machine = r .machine; count = r .count; ending = r .ending; rounds = r .rounds; clocks = r .clocks; refusal = r .refusal }
 
--- ---- boards that the caller holds: the first `count` of its places are lent, those behind them stay
+-- ---- boards of the caller's own: the first `count` of its places are lent, all if there are fewer; those behind are not looked at and stay
 
-abbrev pub heldRun : Machine → List Board → ℕ → List ℕ → ℕ → Held
-heldRun m boards count flips room =
+abbrev pub ownedRun : Machine → List Board → ℕ → List ℕ → ℕ → Owned
+ownedRun m boards count flips room =
     record {
       report = reported (lentRun m (take count boards) flips room);
       boards = lentRun m (take count boards) flips room .boards ++ drop count boards;
     }
 
--- ---- a place without a board
-
-abbrev pub noBoard : Board
-noBoard = record { identity = 0; address = 0 }
+abbrev pub ownedCells : Machine → List Board → ℕ → List ℕ → ℕ → List ℕ
+ownedCells m boards count flips room = lentCells m (take count boards) flips room

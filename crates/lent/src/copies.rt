@@ -3,8 +3,7 @@ ghost use mathlib.Core.Path.{_≡_};
 ghost use Prim.Native.Nat.{_<_, _≤_, min};
 ghost use lib.ListN.{length, getD, set, take, replicate};
 ghost use Rattle.lists.specs.Buffers.{lay};
-ghost use Rattle.lent.specs.Runs.{noBoard};
-
+ghost use Rattle.lent.specs.Places.{noBoard};
 use boards::Board;
 
 // 32 places without a board.

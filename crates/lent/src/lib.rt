@@ -1,10 +1,11 @@
-// The bench, lent its boards as one list of any length. When a run is over they have the addresses that they took; a refused run leaves the list as it was.
+// The bench, lent its boards as one list of any length. When a run is over they have the addresses that they took; a refused run leaves the list and the
+// cells as they were.
 //
-// The list is copied into the 32 places of `bench::run`, which refuses and plays, and what it hands back is copied over the list.
+// At most the first 32 boards, and the length of the list, go to `bench::run`, which refuses or plays; as many are copied back.
 ghost use mathlib.Core.Path.{_≡_};
-ghost use lib.ListN.{length, take};
+ghost use lib.ListN.{length};
 ghost use Rattle.lists.specs.Buffers.{lay};
-ghost use Rattle.lent.specs.Runs.{reported, lentRun, lentCells, heldRun};
+ghost use Rattle.lent.specs.Runs.{reported, lentRun, lentCells, ownedRun, ownedCells};
 
 mod copies;
 
@@ -13,7 +14,7 @@ use boards::Board;
 use machine::Machine;
 
 // What a run over a lent list hands back: the machine, how many cells it wrote, its ending, the answered rounds and the clocks of these cells, and its
-// refusal, 0 for none. A refused run has 0 in every other number. The boards are in the list.
+// refusal, 0 for none. A refused run has the machine as given, and 0 in every other number. The boards are in the list.
 pub struct Report {
     pub machine: Machine,
     pub count: usize,
@@ -52,30 +53,32 @@ pub fn run(machine: Machine, boards: &mut [Board], flips: &[u8], cells: &mut [u1
     report_of(ran)
 }
 
-// What a run over boards of one's own hands back: the report, and the boards.
-pub struct Held {
+// What a run over boards of the caller's own hands back: the report, and the boards.
+pub struct Owned {
     pub report: Report,
     pub boards: [Board; 40],
 }
 
-fn held_of(report: Report, boards: [Board; 40]) -> Held
+// The two together.
+fn owned_of(report: Report, boards: [Board; 40]) -> Owned
     ensures { λ r. ⌜ r ≡ record { report = report; boards = boards } ⌝ }
 {
-    Held { report, boards }
+    Owned { report, boards }
 }
 
-// The same for a caller that holds its boards by value: the first `count` of its 40 places are lent, and those behind them stay.
-pub fn run_held(
+// The same for a caller with boards by value, who then lends nothing but flips and cells: the first `count` of its 40 places are lent for it, all 40 if
+// `count` is more. Those behind are not looked at, and stay. A run takes 32; the other places are there so that too many can be lent, and refused.
+pub fn run_owned(
     machine: Machine,
     mut boards: [Board; 40],
     count: usize,
     flips: &[u8],
     cells: &mut [u16],
-) -> Held
-    ensures { λ r. ⌜ r ≡ heldRun machine boards count (now (flips .entry)) (length (now (cells .entry))) ⌝ }
-    ensures { λ _. ⌜ now (cells .exit) ≡ lay (lentCells machine (take count boards) (now (flips .entry)) (length (now (cells .entry)))) (now (cells .entry)) ⌝ }
+) -> Owned
+    ensures { λ r. ⌜ r ≡ ownedRun machine boards count (now (flips .entry)) (length (now (cells .entry))) ⌝ }
+    ensures { λ _. ⌜ now (cells .exit) ≡ lay (ownedCells machine boards count (now (flips .entry)) (length (now (cells .entry)))) (now (cells .entry)) ⌝ }
 {
     let many = copies::at_most(count, 40);
     let report = run(machine, &mut boards[..many], flips, cells);
-    held_of(report, boards)
+    owned_of(report, boards)
 }
