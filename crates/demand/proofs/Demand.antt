@@ -19,7 +19,7 @@ use Rattle.boards.specs.Plain.{areWide}
 use Rattle.bench.specs.Play.{Play, flipNow, flipsThen, roundsIn}
 use Rattle.bench.specs.Wire.{opened, roundOn, roundsOn, onWire}
 use Rattle.bench.specs.Plain.{plain}
-use Rattle.bench.specs.Runs.{refusalOf, ran, placed, benched, benchCells}
+use Rattle.bench.specs.Runs.{runRefusal, refusalOf, ran, placed, benched, benchCells}
 use Rattle.bench.proofs.Same.{idle-stays, wire-plain}
 use Rattle.bench.proofs.Counts as counts
 use Rattle.bench.proofs.Refused.{begin-asked}
@@ -132,45 +132,58 @@ module _ (room : ℕ) (m : Machine) (bs : List Board) (ks : List ℕ) (lent : 10
   pub by-calls : ByCalls m (onWire room m bs ks)
   by-calls = as-plain (ByCalls m) (plain-by-calls m ks bs may)
 
--- ---- the bench's own runs
+-- ---- runs that are not refused, over so many boards
 
 -- what may run is not refused, with 1,024 cells lent, addresses of seven bits and flips of 0 to 8
+pub may-taken : (m : Machine) (bs : List Board) (n : ℕ) (flips : List ℕ) (room : ℕ) → MayRun m bs → 1024 ≤ room → n ≤ 32
+    → any (λ (b : Board). ltb 127 (b .address)) bs ≡ false → any (ltb 8) flips ≡ false → runRefusal m bs n flips room ≡ 0
+may-taken m bs n flips room may lent few low tame =
+    let rests = sym (rest-resting m refl (ap not (may .right)) refl (ap not (may .idles))) in
+    sym (begin-asked m bs n flips room lent refl rests few refl low refl tame (sym (may .begins)))
+
+module _ (m : Machine) (bs : List Board) (n : ℕ) (flips : List ℕ) (room : ℕ) (taken : runRefusal m bs n flips room ≡ 0) where
+  -- what is not refused was lent 1,024 cells
+  pub taken-enough : 1024 ≤ room
+  taken-enough = allowed m bs n flips room refl taken .enough
+
+  -- and may run
+  pub taken-may : length bs ≤ n → areWide bs ≡ true → MayRun m bs
+  taken-may many wide =
+      let a = allowed m bs n flips room refl taken in
+      record { right = a .right; idles = a .rests; begins = a .begins; few = omega (arith, many, a .few); wide = wide }
+
+-- ---- the bench's own runs
+
+-- what may run is not refused
 pub run-taken : (m : Machine) (boards : List Board) (n : ℕ) (flips : List ℕ) (room : ℕ) → MayRun m (take n boards) → 1024 ≤ room → n ≤ 32
     → any (λ (b : Board). ltb 127 (b .address)) (take n boards) ≡ false → any (ltb 8) flips ≡ false → refusalOf m boards n flips room ≡ 0
-run-taken m boards n flips room may lent few low tame =
-    let rests = sym (rest-resting m refl (ap not (may .right)) refl (ap not (may .idles))) in
-    sym (begin-asked m (take n boards) n flips room lent refl rests few refl low refl tame (sym (may .begins)))
+run-taken m boards n flips room = may-taken m (take n boards) n flips room
 
 module _ (m : Machine) (boards : List Board) (n : ℕ) (flips : List ℕ) (room : ℕ) (taken : refusalOf m boards n flips room ≡ 0)
     (wide : areWide (take n boards) ≡ true) where
   -- a run that is not refused may run: so all of the above holds of it
   pub may-run : MayRun m (take n boards)
-  may-run =
-      let a = allowed m boards n flips room refl taken in
-      record { right = a .right; idles = a .rests; begins = a .begins; few = omega (arith, length-take n boards, a .few); wide = wide }
+  may-run = taken-may m (take n boards) n flips room taken (omega (arith, length-take n boards)) wide
+
+  -- 1,024 cells were lent
+  enough : 1024 ≤ room
+  enough = taken-enough m (take n boards) n flips room taken
 
   -- what it hands back is what the run on the wire comes to
   pub run-on-wire : benched m boards n flips room ≡ ran (placed (drop n boards) (onWire room m (take n boards) flips))
   unfolding benched
-  run-on-wire =
-      let a = allowed m boards n flips room refl taken in
-      rw (taken, same-run room m (take n boards) flips (a .enough) may-run)
+  run-on-wire = rw (taken, same-run room m (take n boards) flips enough may-run)
 
   -- and so are the cells that it writes
   pub cells-on-wire : benchCells m boards n flips room ≡ onWire room m (take n boards) flips .cells
   unfolding benchCells
-  cells-on-wire =
-      let a = allowed m boards n flips room refl taken in
-      rw (taken, same-run room m (take n boards) flips (a .enough) may-run)
+  cells-on-wire = rw (taken, same-run room m (take n boards) flips enough may-run)
 
   -- so its machine is idle, and keeps the rules
   pub run-rests : (isIdle (benched m boards n flips room .machine .moment) ≡ true) × (machineRight (benched m boards n flips room .machine) ≡ true)
-  run-rests =
-      let lent = allowed m boards n flips room refl taken .enough in
-      rw run-on-wire (ends-idle room m (take n boards) flips lent may-run, ends-right room m (take n boards) flips lent may-run)
+  run-rests = rw run-on-wire (ends-idle room m (take n boards) flips enough may-run, ends-right room m (take n boards) flips enough may-run)
 
   -- and its counter of rounds is at most twice the boards that began without an address
   pub run-rounds-twice : benched m boards n flips room .rounds ≤ 2 * count waits (take n boards)
   run-rounds-twice =
-      let lent = allowed m boards n flips room refl taken .enough in
-      rw (run-on-wire, rounds-counted room m (take n boards) flips lent may-run) (rounds-twice room m (take n boards) flips lent may-run)
+      rw (run-on-wire, rounds-counted room m (take n boards) flips enough may-run) (rounds-twice room m (take n boards) flips enough may-run)

@@ -9,3 +9,4 @@ pub mod Runs
 pub mod ReadBack
 pub mod ByCalls
 pub mod Demand
+pub mod Lent

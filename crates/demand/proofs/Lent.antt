@@ -1,0 +1,82 @@
+-- What is asked of a run on the bench, of a run over boards that are lent as one list: from the list at entry to the list at exit.
+use Prim.Native.Nat.{ℕ, _*_, _≤_}
+use mathlib.Core.Path.{_≡_}
+use mathlib.Core.Bool.{true, false}
+use mathlib.Core.List.{List, map}
+use native.Mathlib.Omega.{arith}
+use lib.Dec.{eqb, ltb}
+use lib.ListN.{length}
+use Rattle.lists.specs.Lists.{any, count, pairwise}
+use Rattle.reader.specs.Read.{says, answerTo, offersTo}
+use Rattle.machine.specs.declared.Machine.{Machine}
+use Rattle.machine.specs.Moments.{machineRight, isIdle}
+use Rattle.told.specs.Told.{tenEach}
+use Rattle.boards.specs.declared.Board.{Board}
+use Rattle.boards.specs.Wire.{waits}
+use Rattle.boards.specs.Plain.{areWide}
+use Rattle.bench.specs.Wire.{onWire}
+use Rattle.bench.specs.Runs.{ran}
+use Rattle.lent.specs.Runs.{lentRefusal, lentRun, lentCells}
+use Rattle.demand.specs.Demand.{MayRun, FairRounds, acceptedIn, offerIn, readingOf}
+use Rattle.demand.proofs.Demand.{may-taken, taken-enough, taken-may, same-run, fair-rounds, accepted-rise, rounds-twice, ends-idle, ends-right}
+use Rattle.demand.proofs.Demand.{all-served, no-boards, rounds-counted, read-back}
+
+-- the caller's own array needs nothing more: what `run_owned` promises is over `lentRun m (take count boards)`
+
+-- what may run is not refused: any sound idle table on which a run may begin, and any 0 to 32 boards
+pub lent-taken : (m : Machine) (bs : List Board) (flips : List ℕ) (room : ℕ) → MayRun m bs → 1024 ≤ room
+    → any (λ (b : Board). ltb 127 (b .address)) bs ≡ false → any (ltb 8) flips ≡ false → lentRefusal m bs flips room ≡ 0
+lent-taken m bs flips room may enough = may-taken m bs (length bs) flips room may enough (may .few)
+
+module _ (m : Machine) (bs : List Board) (flips : List ℕ) (room : ℕ) (taken : lentRefusal m bs flips room ≡ 0) (wide : areWide bs ≡ true) where
+  -- a run that is not refused may run: so all that is asked of the run on the wire holds
+  pub lent-may-run : MayRun m bs
+  lent-may-run = taken-may m bs (length bs) flips room taken (omega arith) wide
+
+  -- 1,024 cells were lent
+  enough : 1024 ≤ room
+  enough = taken-enough m bs (length bs) flips room taken
+
+  -- it equals the run on the wire in every row, board and ending
+  pub lent-on-wire : lentRun m bs flips room ≡ ran (onWire room m bs flips)
+  unfolding lentRun
+  lent-on-wire = rw (taken, same-run room m bs flips enough lent-may-run)
+
+  -- and in every cell
+  pub lent-cells-on-wire : lentCells m bs flips room ≡ onWire room m bs flips .cells
+  unfolding lentCells
+  lent-cells-on-wire = rw (taken, same-run room m bs flips enough lent-may-run)
+
+  -- from entry to exit each answered round goes to the smallest identity still without an address, and its bearers take or refuse together
+  pub lent-fair : FairRounds bs (onWire room m bs flips .rounds) (lentRun m bs flips room .boards)
+  lent-fair = rw lent-on-wire (fair-rounds room m bs flips enough lent-may-run)
+
+  -- accepted identities strictly rise
+  pub lent-rise : pairwise ltb (acceptedIn (onWire room m bs flips .rounds)) ≡ true
+  lent-rise = accepted-rise room m bs flips enough lent-may-run
+
+  -- its counter of rounds is how many rounds were answered
+  pub lent-rounds : lentRun m bs flips room .rounds ≡ length (onWire room m bs flips .rounds)
+  lent-rounds = rw lent-on-wire (rounds-counted room m bs flips enough lent-may-run)
+
+  -- answered rounds are at most twice the boards that started without an address
+  pub lent-rounds-twice : lentRun m bs flips room .rounds ≤ 2 * count waits bs
+  lent-rounds-twice = rw lent-rounds (rounds-twice room m bs flips enough lent-may-run)
+
+  -- the machine is idle afterwards, and keeps the rules
+  pub lent-rests : (isIdle (lentRun m bs flips room .machine .moment) ≡ true) × (machineRight (lentRun m bs flips room .machine) ≡ true)
+  lent-rests = rw lent-on-wire (ends-idle room m bs flips enough lent-may-run, ends-right room m bs flips enough lent-may-run)
+
+  -- ending 0: every board of the list at exit has an address
+  pub lent-served : lentRun m bs flips room .ending ≡ 0 → any waits (lentRun m bs flips room .boards) ≡ false
+  lent-served = rw lent-on-wire (all-served room m bs flips enough lent-may-run)
+
+  -- ending 5: exactly where the list is empty
+  pub lent-no-boards : eqb (lentRun m bs flips room .ending) 5 ≡ eqb (length bs) 0
+  lent-no-boards = rw lent-on-wire (no-boards room m bs flips enough lent-may-run)
+
+  -- the record that it writes is read, with exactly the offers of its rounds
+  pub lent-read : (space : ℕ) → 10 * length (onWire room m bs flips .rounds) ≤ space
+      → (answerTo (lentCells m bs flips room) space ≡ says (readingOf bs (onWire room m bs flips)))
+      × (offersTo (lentCells m bs flips room) space ≡ tenEach (map offerIn (onWire room m bs flips .rounds)))
+  lent-read = rw lent-cells-on-wire (read-back room m bs flips enough lent-may-run)
