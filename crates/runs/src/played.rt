@@ -4,7 +4,9 @@ use crate::came::Came;
 use crate::same::boards_from;
 use crate::setup;
 use crate::setup::Setup;
-use bench::Ran;
+use boards::Board;
+use lent::Owned;
+use lent::Report;
 use lines::cells::BLANK_CELL;
 use lines::cells::blank_from;
 use lines::numbers::Numbers;
@@ -15,13 +17,13 @@ use lines::numbers::ticket;
 use looks::same;
 
 // A run of what is given, lent the first of these cells.
-fn run_part(setup: Setup, flips: &[u8; 100], cells: &mut [u16]) -> Ran {
+fn run_part(setup: Setup, flips: &[u8; 100], cells: &mut [u16]) -> Owned {
     let machine = setup.machine;
     let boards = setup.boards;
     let all = &flips[..];
     let many = at_most(setup.many, all.len());
     let n = at_most(setup.lent, cells.len());
-    bench::run(
+    lent::run_owned(
         machine,
         boards,
         setup.count,
@@ -34,35 +36,34 @@ fn run_part(setup: Setup, flips: &[u8; 100], cells: &mut [u16]) -> Ran {
 pub fn play(setup: Setup) -> Came {
     let flips = setup.flips;
     let mut cells = [BLANK_CELL; 1100];
-    let ran = run_part(setup, &flips, &mut cells);
-    let count = ran.count;
-    let machine = ran.machine;
-    let boards = ran.boards;
+    let owned = run_part(setup, &flips, &mut cells);
+    let report = owned.report;
+    let boards = owned.boards;
+    let machine = report.machine;
     let next = setup.with_machine(machine).with_boards(boards, setup.count);
     Came {
         setup: next.with_cells(cells),
-        numbers: numbers_of(ran),
-        untouched: blank_from(&cells, count),
-        kept: kept(setup, ran),
+        numbers: numbers_of(report),
+        untouched: blank_from(&cells, report.count),
+        kept: kept(setup, report, boards),
     }
 }
 
-fn numbers_of(ran: Ran) -> Numbers {
-    Numbers::one(ran.refusal as u64)
-        .with(ran.count as u64)
-        .with(ran.ending as u64)
-        .with(ran.rounds as u64)
-        .with(ran.clocks as u64)
+fn numbers_of(report: Report) -> Numbers {
+    Numbers::one(report.refusal as u64)
+        .with(report.count as u64)
+        .with(report.ending as u64)
+        .with(report.rounds as u64)
+        .with(report.clocks as u64)
 }
 
-// Whether a run kept what it has to. Refused: machine and boards. Else: the machine is idle and remembers nothing, the boards have their identities, and
-// those behind the count are as they were.
-fn kept(setup: Setup, ran: Ran) -> bool {
+// Whether a run kept what it has to. Refused: machine and boards. Else: the machine is idle and remembers nothing, the boards have their identities,
+// and those behind the count are as they were.
+fn kept(setup: Setup, report: Report, boards_after: [Board; 40]) -> bool {
     let before = setup.machine;
-    let after = ran.machine;
+    let after = report.machine;
     let boards = setup.boards;
-    let boards_after = ran.boards;
-    if ran.refusal != 0 {
+    if report.refusal != 0 {
         return same::machine(before, after) & boards_from(boards, boards_after, 0);
     }
     looks::moment(after).same(rest()) & boards_from(boards, boards_after, setup.count)

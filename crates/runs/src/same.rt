@@ -2,9 +2,9 @@
 use boards::Board;
 
 // Whether all identities are the same, and from a place on the addresses too.
-pub fn boards_from(a: [Board; 32], b: [Board; 32], first: usize) -> bool {
+pub fn boards_from(a: [Board; 40], b: [Board; 40], first: usize) -> bool {
     let mut i: usize = 0;
-    while i < 32 {
+    while i < 40 {
         let before = a[i];
         let after = b[i];
         if before.identity != after.identity {

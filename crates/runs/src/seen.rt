@@ -13,7 +13,7 @@ fn cell_at(setup: Setup, place: usize) -> u64 {
 // The address of the board at a place, 0 behind all of them.
 fn address_at(setup: Setup, place: usize) -> u64 {
     let boards = setup.boards;
-    if place < 32 {
+    if place < 40 {
         let b = boards[place];
         b.address as u64
     } else {

@@ -8,10 +8,10 @@ use lines::numbers::size;
 use looks::by_hand;
 use machine::Machine;
 
-// The machine; 32 boards, of which a run is told `count`; the flips, which are the first `many`; and how many of its 1,100 cells a run is lent.
+// The machine; 40 boards, of which a run is lent the first `count`; the flips, which are the first `many`; and how many of its 1,100 cells.
 pub struct Setup {
     pub machine: Machine,
-    pub boards: [Board; 32],
+    pub boards: [Board; 40],
     pub count: usize,
     pub flips: [u8; 100],
     pub many: usize,
@@ -33,7 +33,7 @@ pub fn new() -> Setup {
     let machine = machine::start(0, &none, 0).machine;
     Setup {
         machine,
-        boards: [no_board(); 32],
+        boards: [no_board(); 40],
         count: 0,
         flips: [0; 100],
         many: 0,
@@ -49,7 +49,7 @@ impl Setup {
         let number = size(given.at(0));
         let machine = self.machine;
         match letter {
-            b'b' => more(self.with_boards([no_board(); 32], 0), given),
+            b'b' => more(self.with_boards([no_board(); 40], 0), given),
             b'm' => more(self, given),
             b'w' => wire(self.with_many(0), given),
             b'a' => again(self, number),
@@ -68,7 +68,7 @@ impl Setup {
     }
 
     // With these boards, of which so many are told.
-    pub fn with_boards(self, boards: [Board; 32], count: usize) -> Setup {
+    pub fn with_boards(self, boards: [Board; 40], count: usize) -> Setup {
         let mut next = self;
         next.boards = boards;
         next.count = count;
@@ -106,7 +106,7 @@ impl Setup {
     // With this board at a place, if there is such a place.
     fn with_board(self, place: usize, identity: u64, address: u8) -> Setup {
         let mut boards = self.boards;
-        if place < 32 {
+        if place < 40 {
             boards[place] = Board { identity, address };
         }
         self.with_boards(boards, self.count)
@@ -144,7 +144,7 @@ fn more(setup: Setup, given: Numbers) -> Setup {
     while i < 24 {
         if i < given.count {
             let next = longer.with_board(longer.count, given.at(i), 0);
-            longer = next.with_count(at_most(next.count, 31) + 1);
+            longer = next.with_count(at_most(next.count, 39) + 1);
         }
         i += 1;
     }

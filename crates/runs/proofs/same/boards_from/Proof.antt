@@ -1,16 +1,14 @@
--- `runs::same::boards_from` is safe, and ends after 32 places.
+-- `runs::same::boards_from` is safe, and ends after 40 places.
 use Prim.Native.Nat.{_-_, _≤_}
 use borrow.Author.Needs.{needs}
--- `runs::same::boards_from` is safe, and ends after 32 places.
-use Prim.Native.Nat.{_-_, _≤_}
 use Rattle.runs.proofs.same.boards_from.Statement.{statement}
 use Rattle.runs.proofs.same.boards_from.Tie as tie
 
 abbrev Inv-loop : tie.InvT-loop
-Inv-loop first a b i₀ i = i ≤ 32
+Inv-loop first a b i₀ i = i ≤ 40
 
 abbrev μ-loop : tie.MeasureT-loop
-μ-loop first a b i₀ i = 32 - i
+μ-loop first a b i₀ i = 40 - i
 
 loop-holds : tie.Need-loop-holds Inv-loop μ-loop
 loop-holds c = search needs
