@@ -16,8 +16,8 @@ use base.Logic.{ent, sep, ex, guard}
 use base.Fml.{Lft, GName, Fml, ftrue, fsep, fat, fdead, flent}
 use prog.Wp.{Heap}
 use ghost.Atoms.{Atoms, sem}
-use types.Kit.{Given, ‵, _⊛_, some, later, _$_, _∵_, !, qed, by, move, use1, use2, use3, drop, split, pick, check, rewrite, fsplit, fjoin}
-use types.Kit.{fpick, fpack, feqI, frame, await, updating, now as at-once, show, done}
+use types.Kit.{Given, ‵, _⊛_, some, later, _$_, _∵_, !, qed, by, move, use1, use2, use3, drop, split, pick, check, rewrite, fsplit, fjoin, fpick}
+use types.Kit.{fpack, feqI, frame, await, updating, now as at-once, show, done}
 use types.SemTy.{cells, Arr as ArrT}
 use types.Share.{arr-parts}
 use denote.Laws.{Is, shows}

@@ -38,10 +38,9 @@ use denote.Triple.Spec.{Meets, tripleOf}
 use denote.Triple.Statement.{Contract, Triple}
 use denote.Triple.Table.{entered, cited}
 use denote.Triple.Walked.{says, Stays, gave-slice, stay-none, stay-none-slice, walkOf, goes-gave-slice, goes-none-slice, Walks, ends-at, walked}
-use denote.Triple.Walked.{walk-meets}
+use denote.Triple.Walked.{walk-meets, goes-none as goes-none′}
 use denote.RattleType.{owns}
 use denote.Struct.Laws as LL
-use denote.Triple.Walked.{goes-none as goes-none′}
 use Rattle.lists.specs.Buffers.{lay}
 use Rattle.boards.specs.declared.Board.{Board}
 use Rattle.machine.specs.declared.Machine.{Machine}
