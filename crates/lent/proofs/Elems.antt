@@ -1,4 +1,5 @@
--- What every walk over boards cites: a board's machine value, and its laws; where the element i of a slice of boards lies, and that its offset fits.
+-- What the walks over boards cite: the machine value of a board and of an array of boards, and its laws; where board i of a list lies, 16 bytes each,
+-- and that its offset fits; and a loop that counts.
 -- Assumes nothing, and where it takes one `Given`.
 use mathlib.Core.Path.{_≡_, refl, sym, _∙_, subst}
 use Prim.Native.Nat.{ℕ, _<_, _≤_, _^_, _*_, _+_, _-_}

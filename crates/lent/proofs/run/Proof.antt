@@ -1,6 +1,7 @@
 -- `lent::run` meets its contract: a walk of its MIR, by hand, with no branch and no loop. The list is lent as `&` to `load`, and comes back
 -- (`Shared.antt`); `bench::run`, which is covered, plays on the copy; and the list is given to `save` for good.
 -- All that the proof knows of the six functions that it calls is that each meets its contract.
+-- Assumes nothing.
 use Prim.Native.Nat.{ℕ, _<_, _≤_, _^_, min}
 use mathlib.Core.List.{List, [], _∷_}
 use mathlib.Core.Path.{_≡_, refl, _∙_, ap, subst}
@@ -263,7 +264,7 @@ module _ {M : Type 1} (𝓤 : URA M) (H : Heap 𝓤) (A : Atoms 𝓤) (W : Given
       nothing ! $ own-word ! k (k-fits) $ fjoin ! $
       own-boards ! 32 (ran .boards) is $ fjoin ! $ move ! (1 ∷ 0 ∷ []) $ fjoin ! $ done !
 
-  -- [the tokens of flips and cells; the last cells; flips; the token of boards; the last boards]
+  -- how the walk ends: what is reported, the list at exit and the cells at exit are what the contract says
   exits : (v : Val) (r : Report) (l : List Board) (c : List ℕ) → r ≡ reported (lentRun m ys fs (length cs)) → l ≡ lentRun m ys fs (length cs) .boards
       → c ≡ lay (lentCells m ys fs (length cs)) cs → length l ≡ length ys → length c ≡ length cs → Is Y.the-row r (v ∷ [])
       → ent 𝓤 (⋆ 𝓤 H A (‵ (flft κ₀ q₀) ∷ ‵ (flft κ₁ q₁) ∷ (‵ (flft κ₂ q₂) ⊛ ‵ ftrue) ∷ ‵ (finally R γ l) ∷ ‵ Fl ∷ ‵ (finally u16 γ₂ c) ∷ [])) (Post v)

@@ -1,7 +1,8 @@
 -- `lent::run_owned` meets its contract: a walk of its MIR, by hand. The first places of its own array are lent to `run`, for a lifetime that is made
 -- for the call, and come back (`Local.antt`); flips are copied, and cells go to the callee for good.
--- Its parameters are plain, so whoever calls it needs no walk. All that the proof knows of the three functions that it calls is that each meets its
--- contract.
+-- Its parameters are no lists of boards, so whoever calls it needs no walk.
+-- All that the proof knows of the three functions that it calls is that each meets its contract.
+-- Assumes nothing.
 use Prim.Native.Nat.{ℕ, _<_, _≤_, _^_, min}
 use mathlib.Core.List.{List, [], _∷_, _++_}
 use mathlib.Core.Path.{_≡_, refl, sym, _∙_, ap}
@@ -256,7 +257,7 @@ module _ {M : Type 1} (𝓤 : URA M) (H : Heap 𝓤) (A : Atoms 𝓤) (W : Given
         pass1 ! (init ! (cell 0 5) refl (tt, (tt, (record { fits = room₂ .0 }, tt)))) $ pass0 ! $
         move ! (29 ∷ []) $ fsplit ! $ drop ! $ fsplit ! $ drop ! $ fsplit ! $ drop ! $ fsplit ! $ move ! (1 ∷ []) $ fsplit ! $ move ! (1 ∷ []) $
         drop ! $ move ! (30 ∷ []) $ split ! $
-        -- [flips' token; cells' token ⊛ true; cells; flips; _13 at 4; …; _i at 30 - 2 i; …]
+        -- [flips' token; cells' token ⊛ true; cells; flips; the locals]
         assigns ! (of-opd ! (local ! (cell 4 2) refl)) (into !) (init ! (cell 4 6) refl (atyped 𝓤 H A W 40 xs _ is-xs)) $
         calls-plain ! fm most.ended (most.clauses 𝓤 H A mem run) known-most (to-most 𝓤 H A mem run n 40) (goes-most 𝓤 H A mem run W n 40 gn (lit< tt))
         (λ r. r ≡ k) (λ r ws. id⊢ 𝓤 _)
@@ -277,7 +278,7 @@ module _ {M : Type 1} (𝓤 : URA M) (H : Heap 𝓤) (A : Atoms 𝓤) (W : Given
         move ! (6 ∷ []) $ use1 W (‵ Fl ⊛ ‵ Fl) (shr-slice-copy 𝓤 H A W (named 0) κ₁ u8 .twice x₁ (s₁ ∷ [])) $ split ! $ move ! (5 ∷ 6 ∷ []) $ join ! $
         move ! (5 ∷ 0 ∷ []) $ join ! $ move ! (1 ∷ 5 ∷ []) $ join ! $ move ! (1 ∷ 3 ∷ 0 ∷ []) $
         use3 W (raw (Run 𝓤 H A mem run .pre (to-run l₆ ν δ))) (goes-run l₆ ν δ) $
-        -- [what `play_lent` asks; flips; what is kept; _13 at 3; …; _7 at 15; …; that _6 dies; _5 at 18; …]
+        -- [what `run` asks; flips; what is kept; the locals]; the cell of _6 is lent, so that one entry less stands before those of _5 to _0
         calls-met ! fm run′.ended (run′.clauses 𝓤 H A mem run) known-run (to-run l₆ ν δ)
         (λ r ws. (r ≡ reported ran) × ((ws .1 .0 ≡ ran .boards) × (ws .1 .1 .1 .0 ≡ lay (lentCells m ys fs (length cs)) cs)))
         (λ r ws. both 𝓤 _ _ (both 𝓤 _ _ (id⊢ 𝓤 _))) (and-then ! (local ! (cell 2 1) refl)
@@ -288,7 +289,7 @@ module _ {M : Type 1} (𝓤 : URA M) (H : Heap 𝓤) (A : Atoms 𝓤) (W : Given
         fsplit ! $ drop ! $ fsplit ! $ fsplit ! $ move ! (1 ∷ []) $ feqL ! (λ lb. move ! (2 ∷ 6 ∷ 0 ∷ []) $
         use3 W (later (given (Is (Arr 40) (ws .1 .0 ++ rest) (avals (ws .1 .0 ++ rest))) (‵ (fat fullShare arr l₆ 0 (aval (ws .1 .0 ++ rest))))))
         (local-back (ν ∷ []) l₆ k xs 𝓤 H A W (named 0) 40 δ (ws .1 .0) all k-there lb) $ await ! tt $ learn ! (λ is′.
-        -- [_6; what says the last cells; the tokens; nothing; flips; _13 at 5; …; _7 at 17; …; that _6 dies; _5 at 20; …]
+        -- [the cell of _6; what says the last cells; the tokens; nothing; flips; the locals]; it is back, and stands in front
         assigns ! (of-opd ! (local ! 0 refl)) (into !) (init ! (cell 5 13) refl (atyped 𝓤 H A W 40 (ws .1 .0 ++ rest) _ is′)) $
         calls-plain ! fm own.ended (own.clauses 𝓤 H A mem run) known-owned (to-owned r w (ws .1 .0 ++ rest))
         (goes-owned r w (ws .1 .0 ++ rest) is is′) (λ z. z ≡ record { report = r; boards = ws .1 .0 ++ rest }) (λ z vs. id⊢ 𝓤 _)

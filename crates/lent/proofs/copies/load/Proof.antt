@@ -160,7 +160,7 @@ module _ {M : Type 1} (𝓤 : URA M) (H : Heap 𝓤) (A : Atoms 𝓤) (W : Given
         assigns ! (bin ! (part ! (cell 5 1) 0 refl refl refl) (local ! (cell 5 6) refl) tt) (into !) (init ! (cell 5 7) refl (tt, tt)) $
         rewrite ! (cell 5 7) (λ (p : ℕ). ‵ (fat fullShare tyPtr l₇ 0 (vptr b p))) (sym (place-board o k)) refl $
         elem-out ! R (Is R) (shows 𝓤 H A R) vals tells q′ ys k noBoard b o (at-turn less .there) (λ g.
-        -- [boards[i]; what it owns; the others; …]: two places more in front
+        -- [boards[i]; what it owns; the others; …; the locals]: two entries more in front
         assigns ! (of-opd ! (load ! (from ! (hop ! (look ! (cell 7 7) refl) (stop !))) (look-raw ! 0 refl))) (into !)
         (init ! (cell 7 8) refl (typed 𝓤 H A W (elem k) _ g)) $
         elem-back ! R q′ ys k noBoard (vals (elem k)) b o (at-turn less .there) $
@@ -214,7 +214,7 @@ module _ {M : Type 1} (𝓤 : URA M) (H : Heap 𝓤) (A : Atoms 𝓤) (W : Given
       assigns ! (of-opd ! (lit ! tt)) (into !) (init ! (cell 0 4) refl (tt, record { fits = lit< tt })) $
       move ! (19 ∷ []) $ fsplit ! $ fsplit ! $ move ! (1 ∷ []) $ fsplit ! $ move ! (22 ∷ []) $ split ! $ move ! (3 ∷ 0 ∷ []) $
       looks-slice ! tt R (Is R) (shows 𝓤 H A R) vals tells (copies 𝓤 H A W) ys b o (λ q′.
-      -- [the row; what shuts; the fractured borrow; true; res; the fact; a's and n's; _8; …]
+      -- [the row; what shuts; the fractured borrow; true; res; the fact; a's and n's; the locals]
       keep ! (0 ∷ 1 ∷ 2 ∷ 4 ∷ 5 ∷ 7 ∷ 8 ∷ 9 ∷ 10 ∷ 11 ∷ 12 ∷ 13 ∷ 14 ∷ 15 ∷ 16 ∷ 17 ∷ 18 ∷ 19 ∷ 20 ∷ 21 ∷ 22 ∷ 23 ∷ 24 ∷ []) $
       first ! $ blocks ! $ loops ! 𝓣 Near (Nearer-wf n (λ i. Is (Arr 32) (st i) (avals (st i)))) (At 𝓣 fm known q′ l₀ l₁ l₂ l₃ l₄ l₅ l₆ l₇ l₈)
       (turns 𝓣 fm known q′ l₀ l₁ l₂ l₃ l₄ l₅ l₆ l₇ l₈) (0, (zero-le, is-a))))))))))))

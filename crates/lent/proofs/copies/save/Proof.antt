@@ -169,7 +169,7 @@ module _ {M : Type 1} (𝓤 : URA M) (H : Heap 𝓤) (A : Atoms 𝓤) (W : Given
         assigns ! (bin ! (part ! (cell 4 1) 0 refl refl refl) (local ! (cell 4 7) refl) tt) (into !) (init ! (cell 4 8) refl (tt, tt)) $
         rewrite ! (cell 4 8) (λ (p : ℕ). ‵ (fat fullShare tyPtr l₈ 0 (vptr b p))) (sym (place-board o k)) refl $
         elem-out ! R (Is R) (shows 𝓤 H A R) vals tells fullShare (st k) k noBoard b o (there′ less) (λ _.
-        -- [boards[i]; what it owns; the others; …]: two places more in front
+        -- [boards[i]; what it owns; the others; …; the locals]: two entries more in front
         assigns ! (of-opd ! (local ! (cell 6 6) refl)) (from ! (hop ! (look ! (cell 6 8) refl) (stop !)))
         (store-raw ! 0 refl (typed 𝓤 H A W (elem k) _ (spelt r w e is))) $
         move ! (1 ∷ []) $ drop ! $ owned ! R (Is R) (makes 𝓤 H A) (elem k) _ (spelt r w e is) $ move ! (1 ∷ 0 ∷ []) $
@@ -219,7 +219,7 @@ module _ {M : Type 1} (𝓤 : URA M) (H : Heap 𝓤) (A : Atoms 𝓤) (W : Given
       assigns ! (of-opd ! (lit ! tt)) (into !) (init ! (cell 0 4) refl (tt, record { fits = lit< tt })) $
       move ! (19 ∷ []) $ fsplit ! $ fsplit ! $ move ! (1 ∷ []) $ fsplit ! $ move ! (22 ∷ []) $ split ! $ move ! (2 ∷ 3 ∷ 0 ∷ []) $
       opens-slice ! tt R ys b o $
-      -- [the row; the open borrow; obs; auth; true; the fact; a's and n's; _8; …]
+      -- [the row; the open borrow; obs; auth; true; the fact; a's and n's; the locals]
       keep ! (0 ∷ 1 ∷ 2 ∷ 3 ∷ 7 ∷ 8 ∷ 9 ∷ 10 ∷ 11 ∷ 12 ∷ 13 ∷ 14 ∷ 15 ∷ 16 ∷ 17 ∷ 18 ∷ 19 ∷ 20 ∷ 21 ∷ 22 ∷ 23 ∷ 24 ∷ []) $
       first ! $ blocks ! $ loops ! 𝓣 Near (Nearer-wf n (λ i. Unit {0})) (At 𝓣 fm known l₀ l₁ l₂ l₃ l₄ l₅ l₆ l₇ l₈)
       (turns 𝓣 fm known l₀ l₁ l₂ l₃ l₄ l₅ l₆ l₇ l₈) (0, (zero-le, tt)))))))))))
