@@ -238,6 +238,12 @@ module _ (sheet : List ℕ) (right : sheetRight sheet ≡ true) where
       ∙ rw (entries-apart sheet some, facts-first, d)
       (boards-behind sheet (length sheet) (entryCount sheet) (entryCount sheet - 1) 1 (factsEnd sheet) (omega arith) (omega arith) (right-apart .1))
 
+  -- so no more than there are entries
+  pub boards-few : length (boardsIn sheet) ≤ 34
+  boards-few =
+      let few = right-parts sheet right .few in
+      rw boards-counted (cond-by (λ k. k ≤ 34) (flipsLast sheet (entryCount sheet)) (λ _. omega arith) (λ _. omega arith))
+
   module _ {last : Entry} (is : last ≡ entryAt sheet (entryCount sheet - 1)) where
     -- the flips are not the first
     pub flips-behind : last .kind ≡ 3 → 2 ≤ entryCount sheet

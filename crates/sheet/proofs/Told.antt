@@ -1,11 +1,11 @@
 -- What the functions over a right sheet give: the machine that is started on its facts, and the run with its boards and flips.
 use Prim.Native.Nat.{ℕ, _+_, _-_, _*_, _≤_}
-use mathlib.Core.Path.{_≡_, ap, _∙_}
+use mathlib.Core.Path.{_≡_, refl, ap, _∙_}
 use mathlib.Core.Bool.{true}
 use mathlib.Core.List.{List}
 use native.Mathlib.Omega.{arith}
-use lib.ListN.{length, take, drop, length-drop}
-use lib.Seq.{take-add, take-take, drop-at, drop-drop, getD-take, getD-drop, length-take-le}
+use lib.ListN.{length, take, drop, replicate, length-drop}
+use lib.Seq.{take-add, take-at, take-take, drop-at, drop-drop, getD-take, getD-drop, length-take-le}
 use Rattle.lists.proofs.Buffers.{tail-mid}
 use Rattle.slots.specs.declared.Facts.{Facts}
 use Rattle.slots.specs.Slots.{factsOf}
@@ -14,8 +14,9 @@ use Rattle.machine.specs.declared.Machine.{Machine}
 use Rattle.machine.specs.declared.Stepped.{Stepped}
 use Rattle.machine.specs.Steps.{digits}
 use Rattle.machine.specs.Calls.{started, stepped}
-use Rattle.bench.specs.declared.Ran.{Ran}
-use Rattle.bench.specs.Runs.{benched}
+use Rattle.lent.specs.declared.Owned.{Owned}
+use Rattle.lent.specs.Places.{noBoard}
+use Rattle.lent.specs.Runs.{ownedRun, lentRun, reported}
 use Rattle.sheet.specs.Sheet.{byteAt, bodiesBegin, sheetRight, factsOfBody, factsIn, boardsIn, flipsIn, inPlaces}
 use Rattle.sheet.proofs.Bodies.{facts-lie, facts-inside, flips-lie}
 
@@ -61,9 +62,12 @@ start-told sheet {at} right e t s =
 
 -- ---- the run
 
--- with the boards in their places, and with what lies behind them as flips
-pub play-told : (sheet : List ℕ) (m : Machine) (room : ℕ) {boards : List Board} {at count : ℕ} {r : Ran}
+-- with the boards that are lent, and with what lies behind them as flips
+pub play-told : (sheet : List ℕ) (m : Machine) (room : ℕ) {boards : List Board} {at count : ℕ} {owned : Owned}
     → sheetRight sheet ≡ true → count ≡ length (boardsIn sheet) → boards ≡ inPlaces (boardsIn sheet) → at ≡ bodiesBegin sheet
-    → r ≡ benched m boards count (take (length sheet - (at + 21 + 8 * count)) (drop (at + 21 + 8 * count) sheet)) room
-    → r ≡ benched m (inPlaces (boardsIn sheet)) count (flipsIn sheet) room
-play-told sheet m room {at} {count} right n b e h = h ∙ rw (b, tail-mid (at + 21 + 8 * count) sheet, e, n, flips-lie sheet right)
+    → owned ≡ ownedRun m boards count (take (length sheet - (at + 21 + 8 * count)) (drop (at + 21 + 8 * count) sheet)) room
+    → owned .report ≡ reported (lentRun m (boardsIn sheet) (flipsIn sheet) room)
+play-told sheet m room {at} {count} right n b e h =
+    let bs = boardsIn sheet in
+    let front = take-at bs (replicate (40 - length bs) noBoard) (length bs) refl in
+    ap (λ (x : Owned). x .report) h ∙ rw (b, tail-mid (at + 21 + 8 * count) sheet, e, n, front, flips-lie sheet right)

@@ -9,6 +9,7 @@ use Rattle.slots.specs.declared.Facts.{Facts}
 use Rattle.slots.specs.Slots.{factsOf}
 use Rattle.boards.specs.declared.Board.{Board}
 use Rattle.machine.specs.Steps.{digits, identityOf}
+use Rattle.lent.specs.Places.{noBoard}
 use Rattle.sheet.specs.declared.contents.Entry.{Entry}
 
 -- ---- the contents table
@@ -97,7 +98,7 @@ firstBody (body ∷ bodies) = body
 unfoldable pub flipsIn : List ℕ → List ℕ
 flipsIn sheet = firstBody (bodiesOf 3 sheet (entries sheet))
 
--- ---- boards by value, as the bench takes them: in the first of 32 places, and nothing behind them
+-- ---- boards that are lent to the bench: in the first of 40 places, and nothing behind them
 
 abbrev pub inPlaces : List Board → List Board
-inPlaces bs = bs ++ replicate (32 - length bs) (record { identity = 0; address = 0 })
+inPlaces bs = bs ++ replicate (40 - length bs) noBoard

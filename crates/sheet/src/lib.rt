@@ -1,23 +1,22 @@
 // The sheet run: a sheet says bus facts, boards and flips; a machine is started on these facts, one run is played, and its listing is written.
 ghost use mathlib.Core.Path.{_≡_};
-ghost use Prim.Native.Nat.{_≤_};
 ghost use mathlib.Core.Bool.{true};
 ghost use lib.ListN.{length};
 ghost use Rattle.lists.specs.Buffers.{lay};
 ghost use Rattle.machine.specs.Calls.{started, stepped};
-ghost use Rattle.bench.specs.Runs.{benched};
+ghost use Rattle.lent.specs.Runs.{lentRun, reported};
 ghost use Rattle.sheet.specs.Sheet.{sheetRight, factsIn, boardsIn, flipsIn, inPlaces};
 ghost use Rattle.sheet.specs.Runs.{sheetRan, sheetText};
 
 mod contents;
 
-use bench::Ran;
 use boards::Board;
+use lent::Report;
 use machine::Machine;
 use machine::Stepped;
 
-// Refusals: fewer than 1,100 bytes lent; the sheet is over 512 bytes or breaks a rule of kind, count, offset, length or order. The others are those of
-// `slots` (1), `bench` (16, 17) and `begins` (6, 7).
+// Refusals: fewer than 1,100 bytes lent; the sheet is over 512 bytes or breaks a rule of kind, count, offset, length or order. The others are those
+// of `slots` (1), `bench` (16, 17) and `begins` (6, 7).
 pub const TOO_FEW_BYTES: u8 = 11;
 
 pub const SHEET_WRONG: u8 = 18;
@@ -53,13 +52,13 @@ fn start(sheet: &[u8]) -> Stepped
     machine::start(sheet[flags], &sheet[legacy..last], ticket)
 }
 
-// The boards of a sheet, in the first of 32 places: none has an address.
-fn boards(sheet: &[u8], count: usize) -> [Board; 32]
-    requires { ⌜ (sheetRight (now sheet) ≡ true) × (count ≡ length (boardsIn (now sheet))) × (count ≤ 32) ⌝ }
+// The boards of a sheet, in the first of 40 places: none has an address.
+fn boards(sheet: &[u8], count: usize) -> [Board; 40]
+    requires { ⌜ (sheetRight (now sheet) ≡ true) × (count ≡ length (boardsIn (now sheet))) ⌝ }
     ensures { λ r. ⌜ r ≡ inPlaces (boardsIn (now (sheet .entry))) ⌝ }
 {
     let first = contents::bodies(sheet) + contents::FACTS_BYTES;
-    let mut boards = [NO_BOARD; 32];
+    let mut boards = [NO_BOARD; 40];
     let mut i: usize = 0;
     while i < count {
         let at = first + contents::BOARD_BYTES * i;
@@ -74,14 +73,15 @@ fn boards(sheet: &[u8], count: usize) -> [Board; 32]
 }
 
 // One run with the boards and the flips of a sheet; the flips stand behind the boards, up to the end.
-fn play(sheet: &[u8], machine: Machine, count: usize) -> Ran
-    requires { ⌜ (sheetRight (now sheet) ≡ true) × (count ≡ length (boardsIn (now sheet))) × (count ≤ 32) ⌝ }
-    ensures { λ r. ⌜ r ≡ benched machine (inPlaces (boardsIn (now (sheet .entry)))) count (flipsIn (now (sheet .entry))) 1024 ⌝ }
+fn play(sheet: &[u8], machine: Machine, count: usize) -> Report
+    requires { ⌜ (sheetRight (now sheet) ≡ true) × (count ≡ length (boardsIn (now sheet))) ⌝ }
+    ensures { λ r. ⌜ r ≡ reported (lentRun machine (boardsIn (now (sheet .entry))) (flipsIn (now (sheet .entry))) 1024) ⌝ }
 {
     let boards = boards(sheet, count);
     let flips = contents::bodies(sheet) + contents::FACTS_BYTES + contents::BOARD_BYTES * count;
     let mut cells = [0u16; 1024];
-    bench::run(machine, boards, count, &sheet[flips..], &mut cells)
+    let owned = lent::run_owned(machine, boards, count, &sheet[flips..], &mut cells);
+    owned.report
 }
 
 // A sheet run: the listing is written from the first of at least 1,100 lent bytes on. What lies behind it stays; a refused run writes nothing.
@@ -100,9 +100,6 @@ pub fn run(sheet: &[u8], out: &mut [u8]) -> SheetRan
         return refused(started.refusal);
     }
     let count = contents::boards(sheet);
-    if 32 < count {
-        return refused(bench::TOO_MANY_BOARDS);
-    }
     let machine = started.machine;
     let ran = play(sheet, machine, count);
     if ran.refusal != 0 {

@@ -16,25 +16,25 @@ add-flips : tie.Need-add-flips
 add-flips c = omega (arith, boards-inside _ (c .before .before .before .pre .0))
 
 mul-flips : tie.Need-mul-flips
-mul-flips c = search needs
+mul-flips c = omega (arith, boards-inside _ (c .before .before .before .pre .0))
 
 add-flips-2 : tie.Need-add-flips-2
 add-flips-2 c = omega (arith, boards-inside _ (c .before .before .before .pre .0))
 
-sub-run : tie.Need-sub-run
-sub-run c = omega (arith, boards-inside _ (c .before .before .before .pre .0))
+sub-run-owned : tie.Need-sub-run-owned
+sub-run-owned c = omega (arith, boards-inside _ (c .before .before .before .pre .0))
 
-part-run-start : tie.Need-part-run-start
-part-run-start c = omega (arith, boards-inside _ (c .before .before .before .pre .0))
+part-run-owned-start : tie.Need-part-run-owned-start
+part-run-owned-start c = omega (arith, boards-inside _ (c .before .before .before .pre .0))
 
-part-run-end : tie.Need-part-run-end
-part-run-end c = search needs
+part-run-owned-end : tie.Need-part-run-owned-end
+part-run-owned-end c = search needs
 
-slice-aggregate-run : tie.Need-slice-aggregate-run
-slice-aggregate-run c = search needs
+slice-aggregate-run-owned : tie.Need-slice-aggregate-run-owned
+slice-aggregate-run-owned c = search needs
 
-run-requires : tie.Need-run-requires
-run-requires c κs = search needs
+run-owned-requires : tie.Need-run-owned-requires
+run-owned-requires c κs = search needs
 
 returns : tie.Need-returns
 returns c = search play-told
@@ -48,9 +48,9 @@ play-spec =
     add-flips
     mul-flips
     add-flips-2
-    sub-run
-    part-run-start
-    part-run-end
-    slice-aggregate-run
-    run-requires
+    sub-run-owned
+    part-run-owned-start
+    part-run-owned-end
+    slice-aggregate-run-owned
+    run-owned-requires
     returns)

@@ -2,7 +2,7 @@
 use borrow.Author.Needs.{needs}
 use borrow.Author.Tests.{not-false}
 use Rattle.lists.proofs.Bools.{via}
-use Rattle.sheet.proofs.Refusals.{too-few-bytes, sheet-wrong, facts-wrong, too-many-boards, run-refused, run-listed}
+use Rattle.sheet.proofs.Refusals.{too-few-bytes, sheet-wrong, facts-wrong, run-refused, run-listed}
 use Rattle.sheet.proofs.run.Statement.{statement}
 use Rattle.sheet.proofs.run.Tie as tie
 
@@ -46,36 +46,22 @@ returns-3 c =
 boards-requires : tie.Need-boards-requires
 boards-requires c κs = search (via, not-false)
 
+play-requires : tie.Need-play-requires
+play-requires c κs = (search (via, not-false), search needs)
+
 refused-requires-4 : tie.Need-refused-requires-4
 refused-requires-4 c κs = search needs
 
 returns-4 : tie.Need-returns-4
 returns-4 c =
-    let counts = c .before .before in
-    let starts = counts .before .before .before in
-    let judges = starts .before .before in
-    let lends = judges .before in
-    let a = lends .before .before .before .args in
-    too-many-boards (a .sheet .now) (a .out .now) (lends .if1 .left) (judges .is-right .ensures) (starts .before .if2 .left) (starts .start .ensures)
-    (counts .before .if3 .left) (counts .boards .ensures) (c .before .if4 .taken) (c .refused4 .ensures)
-
-play-requires : tie.Need-play-requires
-play-requires c κs = (search (via, not-false), search needs, search needs)
-
-refused-requires-5 : tie.Need-refused-requires-5
-refused-requires-5 c κs = search needs
-
-returns-5 : tie.Need-returns-5
-returns-5 c =
     let plays = c .before .before .before in
-    let counts = plays .before .before .before in
+    let counts = plays .before .before in
     let starts = counts .before .before .before in
     let judges = starts .before .before in
     let lends = judges .before in
     let a = lends .before .before .before .args in
     run-refused (a .sheet .now) (a .out .now) (lends .if1 .left) (judges .is-right .ensures) (starts .before .if2 .left) (starts .start .ensures)
-    (counts .before .if3 .left) (counts .boards .ensures) (plays .before .before .if4 .left) (plays .play .ensures) (c .before .if5 .taken)
-    (c .refused5 .ensures)
+    (counts .before .if3 .left) (plays .play .ensures) (c .before .if4 .taken) (c .refused4 .ensures)
 
 write-requires : tie.Need-write-requires
 write-requires c κs = search needs
@@ -83,18 +69,18 @@ write-requires c κs = search needs
 same-length : tie.Need-same-length
 same-length c = search needs
 
-returns-6 : tie.Need-returns-6
-returns-6 c =
+returns-5 : tie.Need-returns-5
+returns-5 c =
     let writes = c .before .before in
     let plays = writes .before .before .before .before .before .before in
-    let counts = plays .before .before .before in
+    let counts = plays .before .before in
     let starts = counts .before .before .before in
     let judges = starts .before .before in
     let lends = judges .before in
     let a = lends .before .before .before .args in
     run-listed (a .sheet .now) (a .out .now) (lends .if1 .left) (judges .is-right .ensures) (starts .before .if2 .left) (starts .start .ensures)
-    (counts .before .if3 .left) (counts .boards .ensures) (plays .before .before .if4 .left) (plays .play .ensures)
-    (writes .before .before .before .before .if5 .left) (writes .write .ensures .0) (writes .write .ensures .1)
+    (counts .before .if3 .left) (plays .play .ensures)
+    (writes .before .before .before .before .if4 .left) (writes .write .ensures .0) (writes .write .ensures .1)
 
 pub run-spec : {M : Type 1} → statement M
 run-spec =
@@ -109,11 +95,9 @@ run-spec =
     refused-requires-3
     returns-3
     boards-requires
+    play-requires
     refused-requires-4
     returns-4
-    play-requires
-    refused-requires-5
-    returns-5
     write-requires
     same-length
-    returns-6)
+    returns-5)
