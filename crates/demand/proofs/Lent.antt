@@ -1,5 +1,5 @@
 -- What is asked of a run on the bench, of a run over boards that are lent as one list: from the list at entry to the list at exit.
-use Prim.Native.Nat.{ℕ, _*_, _≤_}
+use Prim.Native.Nat.{ℕ, _+_, _*_, _≤_}
 use mathlib.Core.Path.{_≡_}
 use mathlib.Core.Bool.{true, false}
 use mathlib.Core.List.{List, map}
@@ -7,6 +7,7 @@ use native.Mathlib.Omega.{arith}
 use lib.Dec.{eqb, ltb}
 use lib.ListN.{length}
 use Rattle.lists.specs.Lists.{any, count, pairwise}
+use Rattle.begins.specs.Begins.{assignRefusal}
 use Rattle.reader.specs.Read.{says, answerTo, offersTo}
 use Rattle.machine.specs.declared.Machine.{Machine}
 use Rattle.machine.specs.Moments.{machineRight, isIdle}
@@ -17,9 +18,9 @@ use Rattle.boards.specs.Plain.{areWide}
 use Rattle.bench.specs.Wire.{onWire}
 use Rattle.bench.specs.Runs.{ran}
 use Rattle.lent.specs.Runs.{lentRefusal, lentRun, lentCells}
-use Rattle.demand.specs.Demand.{MayRun, FairRounds, acceptedIn, offerIn, readingOf}
+use Rattle.demand.specs.Demand.{MayRun, FairRounds, acceptedIn, answersIn, twoRefused, offerIn, readingOf}
 use Rattle.demand.proofs.Demand.{may-taken, taken-enough, taken-may, same-run, fair-rounds, accepted-rise, rounds-twice, ends-idle, ends-right}
-use Rattle.demand.proofs.Demand.{all-served, no-boards, rounds-counted, read-back}
+use Rattle.demand.proofs.Demand.{all-served, two-refused, table-ended, no-boards, no-other, rounds-counted, read-back}
 
 -- the caller's own array needs nothing more: what `run_owned` promises is over `lentRun m (take count boards)`
 
@@ -71,9 +72,22 @@ module _ (m : Machine) (bs : List Board) (flips : List ℕ) (room : ℕ) (taken 
   pub lent-served : lentRun m bs flips room .ending ≡ 0 → any waits (lentRun m bs flips room .boards) ≡ false
   lent-served = rw lent-on-wire (all-served room m bs flips enough lent-may-run)
 
+  -- ending 1: the last two offers were refused
+  pub lent-refused : lentRun m bs flips room .ending ≡ 1 → twoRefused (answersIn (onWire room m bs flips .rounds)) ≡ true
+  lent-refused = rw lent-on-wire (two-refused room m bs flips enough lent-may-run)
+
+  -- endings 2, 3, 4: Begin for assign would now be refused with 5, 6, 7
+  pub lent-ended : let r = lentRun m bs flips room in
+      2 ≤ r .ending → r .ending ≤ 4 → assignRefusal (r .machine .facts) (r .machine .rows) ≡ r .ending + 3
+  lent-ended = rw lent-on-wire (table-ended room m bs flips enough lent-may-run)
+
   -- ending 5: exactly where the list is empty
   pub lent-no-boards : eqb (lentRun m bs flips room .ending) 5 ≡ eqb (length bs) 0
   lent-no-boards = rw lent-on-wire (no-boards room m bs flips enough lent-may-run)
+
+  -- there is no other
+  pub lent-no-other : lentRun m bs flips room .ending ≤ 5
+  lent-no-other = rw lent-on-wire (no-other room m bs flips enough lent-may-run)
 
   -- the record that it writes is read, with exactly the offers of its rounds
   pub lent-read : (space : ℕ) → 10 * length (onWire room m bs flips .rounds) ≤ space

@@ -9,6 +9,7 @@ use lib.ListN.{length, take, drop, replicate, length-take, take-append-drop}
 use lib.Seq.{length-take-le, take-all, drop-length, take-at, take-append-seam, drop-append-seam}
 use borrow.Author.Tests.{ltb-false, eqb-true}
 use Rattle.lists.specs.Buffers.{lay}
+use Rattle.lists.proofs.Bools.{cond-by}
 use Rattle.boards.specs.declared.Board.{Board}
 use Rattle.machine.specs.declared.Machine.{Machine}
 use Rattle.bench.specs.declared.Ran.{Ran}
@@ -117,6 +118,18 @@ module _ (m : Machine) (ys : List Board) (flips : List ℕ) (room : ℕ) where
   same-cells = by-refusal (λ _ b _ l. b ≡ l) (λ _. refl) refl
 
   -- ---- for readers
+
+  -- its refusal is the first that applies, and 0 where none does
+  pub lent-refusal : lentRun m ys flips room .refusal ≡ lentRefusal m ys flips room
+  unfolding lentRun
+  lent-refusal =
+      let k = lentRefusal m ys flips room in
+      cond-by (λ (r : Ran). r .refusal ≡ k) (eqb k 0) (λ e. sym (eqb-true k 0 e)) (λ _. refl)
+
+  -- without one it is the plain run
+  pub lent-played : lentRefusal m ys flips room ≡ 0 → lentRun m ys flips room ≡ ran (plain m ys flips)
+  unfolding lentRun
+  lent-played z = rw z
 
   -- no board comes or goes
   pub kept-long : length (lentRun m ys flips room .boards) ≡ length ys

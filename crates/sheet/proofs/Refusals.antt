@@ -1,15 +1,15 @@
--- A sheet run: what the bench asks of it, what it hands back, and what comes of each way out of `sheet::run`.
+-- A sheet run: what the bench asks of it, and what comes of each way out of `sheet::run`.
 use Prim.Native.Nat.{ℕ, _≤_, _<_}
 use mathlib.Core.Path.{_≡_, refl, sym, ap, _∙_}
 use mathlib.Core.Bool.{Bool, true, false, cond, not}
 use mathlib.Core.List.{List, [], _∷_, map}
 use native.Mathlib.Omega.{arith}
-use lib.Dec.{eqb, ltb}
+use lib.Dec.{ltb}
 use lib.ListN.{length}
-use borrow.Author.Tests.{lt-ltb, le-ltb, ne-eqb, eqb-true}
+use borrow.Author.Tests.{lt-ltb, le-ltb, ne-eqb}
 use Rattle.lists.specs.Lists.{any}
 use Rattle.lists.specs.Buffers.{lay}
-use Rattle.lists.proofs.Bools.{here, next, via-not, cond-by}
+use Rattle.lists.proofs.Bools.{here, next, via-not}
 use Rattle.slots.specs.Slots.{factsRight, checked}
 use Rattle.slots.specs.declared.Facts.{Facts}
 use Rattle.free.specs.Free.{full, noFreeAddress, noTicketLeft}
@@ -21,11 +21,10 @@ use Rattle.machine.specs.Refusals.{restRefusal}
 use Rattle.machine.specs.Calls.{started, stepped}
 use Rattle.machine.proofs.Laws.{rest-resting, rest-passed}
 use Rattle.life.proofs.Sound.{start-right}
-use Rattle.bench.specs.declared.Ran.{Ran}
-use Rattle.bench.specs.Plain.{plain}
-use Rattle.bench.specs.Runs.{runRefusal, ran}
+use Rattle.bench.specs.Runs.{runRefusal}
 use Rattle.lent.specs.declared.Report.{Report}
 use Rattle.lent.specs.Runs.{lentRefusal, lentRun, reported}
+use Rattle.lent.proofs.Runs.{lent-refusal, lent-played}
 use Rattle.listing.specs.Listing.{listing, lent}
 use Rattle.sheet.specs.declared.SheetRan.{SheetRan}
 use Rattle.sheet.specs.Sheet.{sheetRight, factsIn, boardOfBody, boardsIn, flipsIn, bodiesOf, entries}
@@ -58,21 +57,6 @@ unfolding started checked assignRefusal full
 bench-asks f bs flips right low =
     let m = started f .machine in
     bench-left m bs flips (rest-resting m refl (ap not (start-right f)) refl refl) low (rw right)
-
--- ---- what the bench hands back
-
-module _ (m : Machine) (bs : List Board) (flips : List ℕ) (room : ℕ) where
-  -- its refusal
-  pub lent-refusal : lentRun m bs flips room .refusal ≡ lentRefusal m bs flips room
-  unfolding lentRun
-  lent-refusal =
-      let k = lentRefusal m bs flips room in
-      cond-by (λ (r : Ran). r .refusal ≡ k) (eqb k 0) (λ e. sym (eqb-true k 0 e)) (λ _. refl)
-
-  -- without one, the plain run
-  pub lent-played : lentRefusal m bs flips room ≡ 0 → lentRun m bs flips room ≡ ran (plain m bs flips)
-  unfolding lentRun
-  lent-played z = rw z
 
 -- ---- the ways out
 
