@@ -1,4 +1,4 @@
--- What the walks over boards cite: the machine value of a board and of an array of boards, and its laws; where board i of a list lies, 16 bytes each,
+-- What the walks over boards cite: the machine value of a board and of an array of boards, and its laws; where board i of a list lies,
 -- and that its offset fits; and a loop that counts.
 -- Assumes nothing, and where it takes one `Given`.
 use mathlib.Core.Path.{_≡_, refl, sym, _∙_, subst}
@@ -66,12 +66,16 @@ each-board (x ∷ xs) (u ∷ us) s = (s .0, each-board xs us (s .1))
 pub from-field : (n : ℕ) (xs : List Board) (vs : List Val) → Is (Array (T.the-field .row) n) (map (T.the-field .into) xs) vs → Is (Arr n) xs vs
 from-field n xs vs p = (p .0, ((p .1 .0 .0, sym (length-map xs (T.the-field .into)) ∙ p .1 .0 .1), each-board xs (p .0) (p .1 .1)))
 
--- element i lies i * 16 past the start
-pub place-board : (o i : ℕ) → place 16 o i ≡ i * 16 + o
-place-board o i = place-is 16 o i
+-- how many bytes a board takes, as it lies in memory
+abbrev pub size : ℕ
+size = 16
+
+-- board i of a list lies so far past the start
+pub place-board : (o i : ℕ) → place size o i ≡ i * size + o
+place-board o i = place-is size o i
 
 -- the offset of an element that is there fits a usize
-pub offset-fits : (i n : ℕ) → Room R n → i < n → i * 16 < 2 ^ 64
+pub offset-fits : (i n : ℕ) → Room R n → i < n → i * size < 2 ^ 64
 offset-fits i n room l = omega (arith, room .1, l)
 
 module _ {M : Type 1} (𝓤 : URA M) (H : Heap 𝓤) (A : Atoms 𝓤) where
@@ -118,7 +122,7 @@ pub record Turn (n long i : ℕ) : Type 0 where
   pub there : i < long
   pub fits : i < 2 ^ 64
   pub next : i + 1 < 2 ^ 64
-  pub offset : i * 16 < 2 ^ 64
+  pub offset : i * size < 2 ^ 64
 
 pub turn : (n long i : ℕ) → n < 2 ^ 64 → n ≤ long → Room R long → T (ltb i n) → Turn n long i
 turn n long i g h room less =

@@ -31,7 +31,7 @@ use denote.Steps.{owned, facts, nothing}
 use denote.Struct.Steps.{spelt}
 use Rattle.boards.specs.declared.Board.{Board}
 use Rattle.boards.proofs.Board.Laws as T′
-use Rattle.lent.proofs.Elems.{R, Arr, avals, aval, atells, amakes}
+use Rattle.lent.proofs.Elems.{size, R, Arr, avals, aval, atells, amakes}
 
 abbrev arr : ℕ → Ty
 arr n = tyArray T′.mir n
@@ -39,21 +39,21 @@ arr n = tyArray T′.mir n
 -- the first k, and what lies behind
 module _ {M : Type 1} (𝓤 : URA M) (H : Heap 𝓤) (A : Atoms 𝓤) (W : Given 𝓤 H A) (b : ℕ) where
   apart : (k : ℕ) (xs : List Board) (o : ℕ) → k ≤ length xs → ent 𝓤 (sem 𝓤 H A (cells (mem R) xs b o))
-      (sep 𝓤 (sem 𝓤 H A (cells (mem R) (take k xs) b o)) (sem 𝓤 H A (cells (mem R) (drop-list k xs) b (place 16 o k))))
+      (sep 𝓤 (sem 𝓤 H A (cells (mem R) (take k xs) b o)) (sem 𝓤 H A (cells (mem R) (drop-list k xs) b (place size o k))))
   apart zero xs o l = qed W (‵ (cells (mem R) xs b o) ∷ []) ∵ nothing ! $ done !
   apart (suc k) [] o l = absurd (not-suc-le-zero l)
   apart (suc k) (x ∷ xs) o l =
       qed W (‵ (cells (mem R) (x ∷ xs) b o) ∷ []) ∵ fsplit ! $ move ! (1 ∷ []) $
-      use1 W (‵ (cells (mem R) (take k xs) b (o + 16)) ⊛ ‵ (cells (mem R) (drop-list k xs) b (place 16 (o + 16) k)))
-      (apart k xs (o + 16) (le-of-suc-le-suc l)) $ split ! $
+      use1 W (‵ (cells (mem R) (take k xs) b (o + size)) ⊛ ‵ (cells (mem R) (drop-list k xs) b (place size (o + size) k)))
+      (apart k xs (o + size) (le-of-suc-le-suc l)) $ split ! $
       move ! (2 ∷ 0 ∷ []) $ fjoin ! $ done !
 
-  together : (zs ys : List Board) (o : ℕ) → ent 𝓤 (sep 𝓤 (sem 𝓤 H A (cells (mem R) zs b o)) (sem 𝓤 H A (cells (mem R) ys b (place 16 o (length zs)))))
+  together : (zs ys : List Board) (o : ℕ) → ent 𝓤 (sep 𝓤 (sem 𝓤 H A (cells (mem R) zs b o)) (sem 𝓤 H A (cells (mem R) ys b (place size o (length zs)))))
       (sem 𝓤 H A (cells (mem R) (zs ++ ys) b o))
   together [] ys o = qed W (‵ ftrue ∷ ‵ (cells (mem R) ys b o) ∷ []) ∵ drop ! $ done !
   together (z ∷ zs) ys o =
-      qed W (‵ (cells (mem R) (z ∷ zs) b o) ∷ ‵ (cells (mem R) ys b (place 16 (o + 16) (length zs))) ∷ []) ∵ fsplit ! $ move ! (1 ∷ 2 ∷ []) $
-      use2 W (‵ (cells (mem R) (zs ++ ys) b (o + 16))) (together zs ys (o + 16)) $ move ! (1 ∷ 0 ∷ []) $ done !
+      qed W (‵ (cells (mem R) (z ∷ zs) b o) ∷ ‵ (cells (mem R) ys b (place size (o + size) (length zs))) ∷ []) ∵ fsplit ! $ move ! (1 ∷ 2 ∷ []) $
+      use2 W (‵ (cells (mem R) (zs ++ ys) b (o + size))) (together zs ys (o + size)) $ move ! (1 ∷ 0 ∷ []) $ done !
 
   -- the array's cell, and its elements
   to-cells : (n : ℕ) (xs : List Board) → Is (Arr n) xs (avals xs)
@@ -83,7 +83,7 @@ module _ (κ : Lft) (b k : ℕ) (xs : List Board) where
 
   -- what the lender keeps: its part at κ, and the places behind the first k
   abbrev pub Kept : GName → Fml
-  Kept γ = fsep (flent κ (Held R (length (take k xs)) b 0 γ)) (cells (mem R) (drop-list k xs) b (place 16 0 k))
+  Kept γ = fsep (flent κ (Held R (length (take k xs)) b 0 γ)) (cells (mem R) (drop-list k xs) b (place size 0 k))
 
   pub taken-length : k ≤ length xs → length (take k xs) ≡ k
   taken-length l = length-take k xs ∙ (omega (arith, l))
@@ -95,7 +95,7 @@ module _ (κ : Lft) (b k : ℕ) (xs : List Board) where
         (sem 𝓤 H A (Kept γ)))))
     lends-local n is l room =
         qed W (‵ (fat fullShare (arr n) b 0 (aval xs)) ∷ []) ∵ updating ! $ use1 W (‵ (cells (mem R) xs b 0)) (to-cells 𝓤 H A W b n xs is) $
-        use1 W (‵ (cells (mem R) (take k xs) b 0) ⊛ ‵ (cells (mem R) (drop-list k xs) b (place 16 0 k))) (apart 𝓤 H A W b k xs 0 l) $ split ! $
+        use1 W (‵ (cells (mem R) (take k xs) b 0) ⊛ ‵ (cells (mem R) (drop-list k xs) b (place size 0 k))) (apart 𝓤 H A W b k xs 0 l) $ split ! $
         use1 W (later (some (λ (γ : GName). ‵ (MutSlice ℓ κ R .own (at-front γ (take k xs)) (sliceVal (b, 0) (length (take k xs)) ∷ [])) ⊛ ‵
         (flent κ (Held R (length (take k xs)) b 0 γ))))) (lends-slice 𝓤 H A W R ℓ κ (take k xs) b 0 room) $ await ! tt $ pick ! (λ γ. split ! $
         at-once ! $ show ! (λ (δ : GName). sep 𝓤 (sem 𝓤 H A (MutSlice ℓ κ R .own (at-front δ (take k xs))
@@ -109,7 +109,7 @@ module _ (κ : Lft) (b k : ℕ) (xs : List Board) where
         qed W (‵ (fdead κ) ∷ ‵ (Kept γ) ∷ ‵ (finally R γ zs) ∷ []) ∵ updating ! $ move ! (1 ∷ []) $ fsplit ! $ move ! (2 ∷ 0 ∷ 3 ∷ []) $
         use3 W (later (‵ (ArrT (mem R) (length (take k xs)) .lies zs b 0))) (slice-back 𝓤 H A W R κ γ zs (length (take k xs)) b 0) $ await ! tt $
         at-once ! $ fsplit ! $ drop ! $
-        rewrite ! 1 (λ (m : ℕ). ‵ (cells (mem R) (drop-list k xs) b (place 16 0 m))) (sym (e ∙ taken-length l)) refl $
+        rewrite ! 1 (λ (m : ℕ). ‵ (cells (mem R) (drop-list k xs) b (place size 0 m))) (sym (e ∙ taken-length l)) refl $
         use2 W (‵ (cells (mem R) (zs ++ drop-list k xs) b 0)) (together 𝓤 H A W b zs (drop-list k xs) 0) $
         by ! (of-cells 𝓤 H A W b n (zs ++ drop-list k xs) counts)
       where
