@@ -154,7 +154,7 @@ module _ (m : Machine) (bs : List Board) (n : ℕ) (flips : List ℕ) (room : �
 
 -- ---- the bench's own runs
 
--- what may run is not refused
+-- what may run is not refused, under the same conditions
 pub run-taken : (m : Machine) (boards : List Board) (n : ℕ) (flips : List ℕ) (room : ℕ) → MayRun m (take n boards) → 1024 ≤ room → n ≤ 32
     → any (λ (b : Board). ltb 127 (b .address)) (take n boards) ≡ false → any (ltb 8) flips ≡ false → refusalOf m boards n flips room ≡ 0
 run-taken m boards n flips room = may-taken m (take n boards) n flips room

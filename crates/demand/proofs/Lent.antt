@@ -24,7 +24,8 @@ use Rattle.demand.proofs.Demand.{all-served, two-refused, table-ended, 
 
 -- the caller's own array needs nothing more: what `run_owned` promises is over `lentRun m (take count boards)`
 
--- what may run is not refused: any sound idle table on which a run may begin, and any 0 to 32 boards
+-- what may run, any sound idle table on which a run may begin and any 0 to 32 boards, is not refused, with 1,024 cells lent, addresses of seven bits and
+-- flips of 0 to 8
 pub lent-taken : (m : Machine) (bs : List Board) (flips : List ℕ) (room : ℕ) → MayRun m bs → 1024 ≤ room
     → any (λ (b : Board). ltb 127 (b .address)) bs ≡ false → any (ltb 8) flips ≡ false → lentRefusal m bs flips room ≡ 0
 lent-taken m bs flips room may enough = may-taken m bs (length bs) flips room may enough (may .few)
@@ -49,37 +50,37 @@ module _ (m : Machine) (bs : List Board) (flips : List ℕ) (room : ℕ) (taken 
   lent-cells-on-wire = rw (taken, same-run room m bs flips enough lent-may-run)
 
   -- from entry to exit each answered round goes to the smallest identity still without an address, and its bearers take or refuse together
-  pub lent-fair : FairRounds bs (onWire room m bs flips .rounds) (lentRun m bs flips room .boards)
-  lent-fair = rw lent-on-wire (fair-rounds room m bs flips enough lent-may-run)
+  pub lent-fair-rounds : FairRounds bs (onWire room m bs flips .rounds) (lentRun m bs flips room .boards)
+  lent-fair-rounds = rw lent-on-wire (fair-rounds room m bs flips enough lent-may-run)
 
   -- accepted identities strictly rise
-  pub lent-rise : pairwise ltb (acceptedIn (onWire room m bs flips .rounds)) ≡ true
-  lent-rise = accepted-rise room m bs flips enough lent-may-run
+  pub lent-accepted-rise : pairwise ltb (acceptedIn (onWire room m bs flips .rounds)) ≡ true
+  lent-accepted-rise = accepted-rise room m bs flips enough lent-may-run
 
   -- its counter of rounds is how many rounds were answered
-  pub lent-rounds : lentRun m bs flips room .rounds ≡ length (onWire room m bs flips .rounds)
-  lent-rounds = rw lent-on-wire (rounds-counted room m bs flips enough lent-may-run)
+  pub lent-rounds-counted : lentRun m bs flips room .rounds ≡ length (onWire room m bs flips .rounds)
+  lent-rounds-counted = rw lent-on-wire (rounds-counted room m bs flips enough lent-may-run)
 
   -- answered rounds are at most twice the boards that started without an address
   pub lent-rounds-twice : lentRun m bs flips room .rounds ≤ 2 * count waits bs
-  lent-rounds-twice = rw lent-rounds (rounds-twice room m bs flips enough lent-may-run)
+  lent-rounds-twice = rw lent-rounds-counted (rounds-twice room m bs flips enough lent-may-run)
 
   -- the machine is idle afterwards, and keeps the rules
   pub lent-rests : (isIdle (lentRun m bs flips room .machine .moment) ≡ true) × (machineRight (lentRun m bs flips room .machine) ≡ true)
   lent-rests = rw lent-on-wire (ends-idle room m bs flips enough lent-may-run, ends-right room m bs flips enough lent-may-run)
 
   -- ending 0: every board of the list at exit has an address
-  pub lent-served : lentRun m bs flips room .ending ≡ 0 → any waits (lentRun m bs flips room .boards) ≡ false
-  lent-served = rw lent-on-wire (all-served room m bs flips enough lent-may-run)
+  pub lent-all-served : lentRun m bs flips room .ending ≡ 0 → any waits (lentRun m bs flips room .boards) ≡ false
+  lent-all-served = rw lent-on-wire (all-served room m bs flips enough lent-may-run)
 
   -- ending 1: the last two offers were refused
-  pub lent-refused : lentRun m bs flips room .ending ≡ 1 → twoRefused (answersIn (onWire room m bs flips .rounds)) ≡ true
-  lent-refused = rw lent-on-wire (two-refused room m bs flips enough lent-may-run)
+  pub lent-two-refused : lentRun m bs flips room .ending ≡ 1 → twoRefused (answersIn (onWire room m bs flips .rounds)) ≡ true
+  lent-two-refused = rw lent-on-wire (two-refused room m bs flips enough lent-may-run)
 
   -- endings 2, 3, 4: Begin for assign would now be refused with 5, 6, 7
-  pub lent-ended : let r = lentRun m bs flips room in
+  pub lent-table-ended : let r = lentRun m bs flips room in
       2 ≤ r .ending → r .ending ≤ 4 → assignRefusal (r .machine .facts) (r .machine .rows) ≡ r .ending + 3
-  lent-ended = rw lent-on-wire (table-ended room m bs flips enough lent-may-run)
+  lent-table-ended = rw lent-on-wire (table-ended room m bs flips enough lent-may-run)
 
   -- ending 5: exactly where the list is empty
   pub lent-no-boards : eqb (lentRun m bs flips room .ending) 5 ≡ eqb (length bs) 0
@@ -90,7 +91,7 @@ module _ (m : Machine) (bs : List Board) (flips : List ℕ) (room : ℕ) (taken 
   lent-no-other = rw lent-on-wire (no-other room m bs flips enough lent-may-run)
 
   -- the record that it writes is read, with exactly the offers of its rounds
-  pub lent-read : (space : ℕ) → 10 * length (onWire room m bs flips .rounds) ≤ space
+  pub lent-read-back : (space : ℕ) → 10 * length (onWire room m bs flips .rounds) ≤ space
       → (answerTo (lentCells m bs flips room) space ≡ says (readingOf bs (onWire room m bs flips)))
       × (offersTo (lentCells m bs flips room) space ≡ tenEach (map offerIn (onWire room m bs flips .rounds)))
-  lent-read = rw lent-cells-on-wire (read-back room m bs flips enough lent-may-run)
+  lent-read-back = rw lent-cells-on-wire (read-back room m bs flips enough lent-may-run)

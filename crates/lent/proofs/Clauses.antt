@@ -18,7 +18,7 @@ module _ {M : Type 1} (𝓤 : URA M) where
       fact-use 𝓤 ψ (via 𝓤 Q (snd∗ 𝓤 (fact 𝓤 φ) Q) q) (λ b. factI 𝓤 (φ × ψ) (sep 𝓤 (fact 𝓤 φ) Q) (a, b)))
 
   -- what is had for nothing stands beside anything
-  pub beside : (P Q : SProp 𝓤) → ent 𝓤 (emp 𝓤) Q → ent 𝓤 P (sep 𝓤 P Q)
+  beside : (P Q : SProp 𝓤) → ent 𝓤 (emp 𝓤) Q → ent 𝓤 P (sep 𝓤 P Q)
   beside P Q q = via 𝓤 (sep 𝓤 (emp 𝓤) P) (emp∗ 𝓤 P) (via 𝓤 (sep 𝓤 Q P) (monoL 𝓤 P q) (comm∗ 𝓤 Q P))
 
   -- a fact is had for nothing, and so is one before others

@@ -1,4 +1,3 @@
-pub mod Fronts
 pub mod Runs
 mod Locals
 mod Clauses
@@ -6,4 +5,4 @@ mod Calls
 mod AtMost
 mod Shared
 mod Elems
-mod Local
+mod LentFront

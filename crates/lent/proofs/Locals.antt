@@ -1,5 +1,5 @@
 -- Steps of a walk over a function's locals, in fewer words. The cell of each local stands in the context, the last local's first, and behind each
--- cell that it dies.
+-- cell its `fdies`.
 --     entry            where a local's cell stands
 --     into             a local as a destination.        local       the value of one
 --     part             the value of a field of a local struct.        start       where the slice that a local holds starts
@@ -55,7 +55,7 @@ module _ {M : Type 1} {𝓤 : URA M} {H : Heap 𝓤} {A : Atoms 𝓤} {K : Type 
         → Rv K W Γ E (addrOf (place i (field 0 ∷ deref τ′ ∷ []))) (vptr b o)
     start t n there cell here = addr t (from t (fld t there (hop t (reads t n 0 cell here) (stop t))))
 
-    -- entry n is the cell, and the entry behind it that it dies
+    -- entry n is the cell, and the entry behind it its `fdies`
     freed : (n : ℕ) {τ : Ty} {b : ℕ} {g : Goal 𝓤 H} {j : Item 𝓤} → nth 𝓤 H A n Γ ≡ j → ent 𝓤 (mean 𝓤 H A j) (H .room τ b zero)
         → nth 𝓤 H A n (del 𝓤 H A n Γ) ≡ ‵ (fdies τ b) → Step K W (del 𝓤 H A n (del 𝓤 H A n Γ)) (frees E g) Γ (frees ((τ, b) ∷ E) g)
     freed n {τ} {b} {g} {j} e r d =

@@ -73,13 +73,20 @@ cond-all P true f g = f refl
 cond-all P false f g = g refl
 
 module _ (m : Machine) (ys : List Board) (flips : List ℕ) (room : ℕ) where
-  -- the copy is refused as the list is
+  -- the copy of over 32 is refused as the list is
+  many-refused : ltb 32 (length ys) ≡ true → refusalOf m (loaded ys) (length ys) flips room ≡ lentRefusal m ys flips room
+  many-refused e = over-refused m (take (length ys) (loaded ys)) ys (length ys) flips room e
+
+  -- so is that of up to 32
+  few-refused : length ys ≤ 32 → refusalOf m (loaded ys) (length ys) flips room ≡ lentRefusal m ys flips room
+  few-refused few = ap (λ (xs : List Board). runRefusal m xs (length ys) flips room) (loaded-all ys few)
+
   same-refusal : refusalOf m (loaded ys) (length ys) flips room ≡ lentRefusal m ys flips room
   same-refusal = go (ltb 32 (length ys)) refl
     where
       go : (b : Bool) → ltb 32 (length ys) ≡ b → refusalOf m (loaded ys) (length ys) flips room ≡ lentRefusal m ys flips room
-      go true e = over-refused m (take (length ys) (loaded ys)) ys (length ys) flips room e
-      go false e = ap (λ (xs : List Board). runRefusal m xs (length ys) flips room) (loaded-all ys (ltb-false 32 (length ys) e))
+      go true e = many-refused e
+      go false e = few-refused (ltb-false 32 (length ys) e)
 
   -- what holds of the copy's run and the list's where both are played, and where both are refused, holds of them
   by-refusal : (P : Ran → List ℕ → Ran → List ℕ → Type 0)
@@ -131,7 +138,7 @@ module _ (m : Machine) (ys : List Board) (flips : List ℕ) (room : ℕ) where
   unfolding lentRun
   lent-played z = rw z
 
-  -- no board comes or goes
+  -- it has as many boards as before
   pub kept-long : length (lentRun m ys flips room .boards) ≡ length ys
   kept-long = by-refusal (λ _ _ l _. length (l .boards) ≡ length ys) (λ _. plain-long m ys flips) refl
 

@@ -18,7 +18,7 @@ use Rattle.lent.specs.declared.Owned.{Owned}
 abbrev pub lentRefusal : Machine → List Board → List ℕ → ℕ → ℕ
 lentRefusal m boards flips room = runRefusal m boards (length boards) flips room
 
--- what comes of it: the plain rule's run, or machine and boards as given; its boards are the list at exit, as long as it was
+-- what comes of it: the plain rule's run, or machine and boards as given; a `Ran` whose boards are the list at exit, whatever its length
 unfoldable pub lentRun : Machine → List Board → List ℕ → ℕ → Ran
 lentRun m boards flips room =
     cond (eqb (lentRefusal m boards flips room) 0) (ran (plain m boards flips)) (refused m boards (lentRefusal m boards flips room))

@@ -4,16 +4,14 @@ ghost use Prim.Native.Nat.{_<_, _≤_, min};
 ghost use lib.ListN.{length, getD, set, take, replicate};
 ghost use Rattle.lists.specs.Buffers.{lay};
 ghost use Rattle.lent.specs.Places.{noBoard};
+use crate::NO_BOARD;
 use boards::Board;
 
 // 32 places without a board.
-pub fn no_boards() -> [Board; 32]
+pub fn empty_places() -> [Board; 32]
     ensures { λ r. ⌜ r ≡ replicate 32 noBoard ⌝ }
 {
-    [Board {
-        identity: 0,
-        address: 0,
-    }; 32]
+    [NO_BOARD; 32]
 }
 
 // The smaller number.

@@ -13,6 +13,12 @@ use bench::Ran;
 use boards::Board;
 use machine::Machine;
 
+// What stands in a place that holds no board.
+pub const NO_BOARD: Board = Board {
+    identity: 0,
+    address: 0,
+};
+
 // What a run over a lent list hands back: the machine, how many cells it wrote, its ending, the answered rounds and the clocks of these cells, and its
 // refusal, 0 for none. A refused run has the machine as given, and 0 in every other number. The boards are in the list.
 pub struct Report {
@@ -46,10 +52,10 @@ pub fn run(machine: Machine, boards: &mut [Board], flips: &[u8], cells: &mut [u1
     ensures { λ _. ⌜ now (cells .exit) ≡ lay (lentCells machine (now (boards .entry)) (now (flips .entry)) (length (now (cells .entry)))) (now (cells .entry)) ⌝ }
 {
     let count = boards.len();
-    let few = copies::at_most(count, 32);
-    let places = copies::load(boards, copies::no_boards(), few);
+    let copied = copies::at_most(count, 32);
+    let places = copies::load(boards, copies::empty_places(), copied);
     let ran = bench::run(machine, places, count, flips, cells);
-    copies::save(boards, ran.boards, few);
+    copies::save(boards, ran.boards, copied);
     report_of(ran)
 }
 

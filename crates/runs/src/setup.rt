@@ -1,5 +1,6 @@
 // What a run is given, and the cells of the last one.
 use boards::Board;
+use lent::NO_BOARD;
 use lines::cells::BLANK_CELL;
 use lines::numbers::Numbers;
 use lines::numbers::at_most;
@@ -8,7 +9,8 @@ use lines::numbers::size;
 use looks::by_hand;
 use machine::Machine;
 
-// The machine; 40 boards, of which a run is lent the first `count`; the flips, which are the first `many`; and how many of its 1,100 cells.
+// The machine; 40 boards, of which a run is lent the first `count`; the flips, which are the first `many`; and how many of 1,100 cells it is
+// lent.
 pub struct Setup {
     pub machine: Machine,
     pub boards: [Board; 40],
@@ -19,21 +21,13 @@ pub struct Setup {
     pub cells: [u16; 1100],
 }
 
-// A place without a board.
-fn no_board() -> Board {
-    Board {
-        identity: 0,
-        address: 0,
-    }
-}
-
 // The machine of a refused start, no boards and no flips, all cells lent, and each blank.
 pub fn new() -> Setup {
     let none = [0u8; 1];
     let machine = machine::start(0, &none, 0).machine;
     Setup {
         machine,
-        boards: [no_board(); 40],
+        boards: [NO_BOARD; 40],
         count: 0,
         flips: [0; 100],
         many: 0,
@@ -49,7 +43,7 @@ impl Setup {
         let number = size(given.at(0));
         let machine = self.machine;
         match letter {
-            b'b' => more(self.with_boards([no_board(); 40], 0), given),
+            b'b' => more(self.with_boards([NO_BOARD; 40], 0), given),
             b'm' => more(self, given),
             b'w' => wire(self.with_many(0), given),
             b'a' => again(self, number),

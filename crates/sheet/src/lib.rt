@@ -11,6 +11,7 @@ ghost use Rattle.sheet.specs.Runs.{sheetRan, sheetText};
 mod contents;
 
 use boards::Board;
+use lent::NO_BOARD;
 use lent::Report;
 use machine::Machine;
 use machine::Stepped;
@@ -26,12 +27,6 @@ pub struct SheetRan {
     pub length: usize,
     pub refusal: u8,
 }
-
-// A place without a board.
-const NO_BOARD: Board = Board {
-    identity: 0,
-    address: 0,
-};
 
 // A refused run.
 fn refused(refusal: u8) -> SheetRan
