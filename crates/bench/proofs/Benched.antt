@@ -52,7 +52,8 @@ module _ (m : Machine) (boards : List Board) (count : ℕ) (flips buffer : List 
     (e : refusal ≡ refusalOf m boards count flips (length buffer)) where
   -- refused: machine, boards and cells as they were
   pub run-refused : (refusal ≡ 0 → ⊥)
-      → (refused m boards refusal ≡ benched m boards count flips (length buffer)) × (buffer ≡ lay (benchCells m boards count flips (length buffer)) buffer)
+      → (refused m boards refusal ≡ benched m boards count flips (length buffer)) ×
+      (buffer ≡ lay (benchCells m boards count flips (length buffer)) buffer)
   unfolding benched benchCells
   run-refused n = rw (← e, ne-eqb refusal 0 n) (refl, refl)
 

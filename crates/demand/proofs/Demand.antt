@@ -25,7 +25,8 @@ use Rattle.bench.proofs.Counts as counts
 use Rattle.bench.proofs.Refused.{begin-asked}
 use Rattle.bench.proofs.Benched.{allowed}
 use Rattle.demand.specs.Demand.{MayRun, FairRounds, acceptedIn, answersIn, twoRefused, ByCalls, offerIn, readingOf}
-use Rattle.demand.proofs.Runs.{plain-fair, plain-rises, plain-few, plain-idle, plain-right, plain-by-flips, plain-served, plain-refused, plain-says, plain-ended, plain-nobody}
+use Rattle.demand.proofs.Runs.{plain-fair, plain-rises, plain-few, plain-idle, plain-right, plain-by-flips, plain-served, plain-refused}
+use Rattle.demand.proofs.Runs.{plain-says, plain-ended, plain-nobody}
 use Rattle.demand.proofs.ReadBack.{plain-read}
 use Rattle.demand.proofs.ByCalls.{plain-by-calls}
 

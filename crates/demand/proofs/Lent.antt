@@ -24,8 +24,8 @@ use Rattle.demand.proofs.Demand.{all-served, two-refused, table-ended, 
 
 -- the caller's own array needs nothing more: what `run_owned` promises is over `lentRun m (take count boards)`
 
--- what may run, any sound idle table on which a run may begin and any 0 to 32 boards, is not refused, with 1,024 cells lent, addresses of seven bits and
--- flips of 0 to 8
+-- what may run, any sound idle table on which a run may begin and any 0 to 32 boards, is not refused, with 1,024 cells lent, addresses of seven
+-- bits and flips of 0 to 8
 pub lent-taken : (m : Machine) (bs : List Board) (flips : List ℕ) (room : ℕ) → MayRun m bs → 1024 ≤ room
     → any (λ (b : Board). ltb 127 (b .address)) bs ≡ false → any (ltb 8) flips ≡ false → lentRefusal m bs flips room ≡ 0
 lent-taken m bs flips room may enough = may-taken m bs (length bs) flips room may enough (may .few)

@@ -1,4 +1,4 @@
-// The bench, lent its boards as one list of any length. When a run is over they have the addresses that they took; a refused run leaves the list and the
+// The bench, lent its boards as one list of any length. When a run is over they have the addresses that they took; a refused run leaves list and
 // cells as they were.
 //
 // At most the first 32 boards, and the length of the list, go to `bench::run`, which refuses or plays; as many are copied back.
