@@ -24,9 +24,10 @@ use Rattle.bench.proofs.Same.{idle-stays, wire-plain}
 use Rattle.bench.proofs.Counts as counts
 use Rattle.bench.proofs.Refused.{begin-asked}
 use Rattle.bench.proofs.Benched.{allowed}
-use Rattle.demand.specs.Demand.{MayRun, FairRounds, acceptedIn, answersIn, twoRefused, ByCalls, offerIn, readingOf}
+use Rattle.demand.specs.Demand.{MayRun, FairRounds, Stay, acceptedIn, answersIn, twoRefused, ByCalls, offerIn, readingOf}
 use Rattle.demand.proofs.Runs.{plain-fair, plain-rises, plain-few, plain-idle, plain-right, plain-by-flips, plain-served, plain-refused}
 use Rattle.demand.proofs.Runs.{plain-says, plain-ended, plain-nobody}
+use Rattle.demand.proofs.Stays.{fair-stay}
 use Rattle.demand.proofs.ReadBack.{plain-read}
 use Rattle.demand.proofs.ByCalls.{plain-by-calls}
 
@@ -60,6 +61,10 @@ module _ (room : ℕ) (m : Machine) (bs : List Board) (ks : List ℕ) (lent : 10
   -- each answered round goes to the smallest identity still without an address, and its bearers take the address together or refuse it together
   pub fair-rounds : FairRounds bs (onWire room m bs ks .rounds) (onWire room m bs ks .boards)
   fair-rounds = as-plain (λ p. FairRounds bs (p .rounds) (p .boards)) (plain-fair m ks bs may)
+
+  -- each board keeps its place and its identity, and an address that it has
+  pub boards-stay : Stay bs (onWire room m bs ks .boards)
+  boards-stay = fair-stay bs (onWire room m bs ks .rounds) (onWire room m bs ks .boards) fair-rounds
 
   -- the identities that accepted an address strictly rise
   pub accepted-rise : pairwise ltb (acceptedIn (onWire room m bs ks .rounds)) ≡ true

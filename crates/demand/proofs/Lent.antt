@@ -18,9 +18,9 @@ use Rattle.boards.specs.Plain.{areWide}
 use Rattle.bench.specs.Wire.{onWire}
 use Rattle.bench.specs.Runs.{ran}
 use Rattle.lent.specs.Runs.{lentRefusal, lentRun, lentCells}
-use Rattle.demand.specs.Demand.{MayRun, FairRounds, acceptedIn, answersIn, twoRefused, offerIn, readingOf}
-use Rattle.demand.proofs.Demand.{may-taken, taken-enough, taken-may, same-run, fair-rounds, accepted-rise, rounds-twice, ends-idle, ends-right}
-use Rattle.demand.proofs.Demand.{all-served, two-refused, table-ended, no-boards, no-other, rounds-counted, read-back}
+use Rattle.demand.specs.Demand.{MayRun, FairRounds, Stay, acceptedIn, answersIn, twoRefused, offerIn, readingOf}
+use Rattle.demand.proofs.Demand.{may-taken, taken-enough, taken-may, same-run, fair-rounds, boards-stay, accepted-rise, rounds-twice}
+use Rattle.demand.proofs.Demand.{ends-idle, ends-right, all-served, two-refused, table-ended, no-boards, no-other, rounds-counted, read-back}
 
 -- the caller's own array needs nothing more: what `run_owned` promises is over `lentRun m (take count boards)`
 
@@ -52,6 +52,10 @@ module _ (m : Machine) (bs : List Board) (flips : List ℕ) (room : ℕ) (taken 
   -- from entry to exit each answered round goes to the smallest identity still without an address, and its bearers take or refuse together
   pub lent-fair-rounds : FairRounds bs (onWire room m bs flips .rounds) (lentRun m bs flips room .boards)
   lent-fair-rounds = rw lent-on-wire (fair-rounds room m bs flips enough lent-may-run)
+
+  -- each board of the list keeps its place and its identity, and an address that it has
+  pub lent-boards-stay : Stay bs (lentRun m bs flips room .boards)
+  lent-boards-stay = rw lent-on-wire (boards-stay room m bs flips enough lent-may-run)
 
   -- accepted identities strictly rise
   pub lent-accepted-rise : pairwise ltb (acceptedIn (onWire room m bs flips .rounds)) ≡ true

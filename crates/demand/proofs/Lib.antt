@@ -8,5 +8,6 @@ pub mod Record
 pub mod Runs
 pub mod ReadBack
 pub mod ByCalls
+pub mod Stays
 pub mod Demand
 pub mod Lent

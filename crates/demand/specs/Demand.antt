@@ -9,6 +9,7 @@ use Rattle.lists.specs.Lists.{any, all}
 use Rattle.lists.specs.Numbers.{within}
 use Rattle.begins.specs.Begins.{assignRefusal}
 use Rattle.boards.specs.declared.Board.{Board}
+use Rattle.boards.specs.Wire.{waits}
 use Rattle.boards.specs.Plain.{areWide, bears, noneBelow, given}
 use Rattle.machine.specs.declared.Machine.{Machine}
 use Rattle.machine.specs.Moments.{machineRight, isIdle}
@@ -48,6 +49,13 @@ pub record Fair (r : Round) : Type 0 where
 unfoldable pub FairRounds : List Board → List Round → List Board → Type 0
 FairRounds bs [] bs′ = bs ≡ bs′
 FairRounds bs (r ∷ rs) bs′ = (r .before ≡ bs) × Fair r × FairRounds (r .after) rs bs′
+
+-- each board keeps its place and its identity, and an address that it has
+unfoldable pub Stay : List Board → List Board → Type 0
+Stay [] [] = Unit
+Stay [] (c ∷ cs) = ⊥
+Stay (b ∷ bs) [] = ⊥
+Stay (b ∷ bs) (c ∷ cs) = (c .identity ≡ b .identity) × (waits b ≡ false → c ≡ b) × Stay bs cs
 
 -- the identities that accepted an address, in order
 abbrev pub acceptedIn : List Round → List ℕ
