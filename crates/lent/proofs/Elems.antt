@@ -56,9 +56,8 @@ module _ (n : ℕ) where
   aspelt xs vs p = subst (Is (Arr n) xs) (atells xs vs p) p
 
 -- a struct's field that is such an array says the same of it, element by element
-each-board : (xs : List Board) (us : List Val) → shadow (each (board.the-field .row .Denot) (board.the-field .row .own)
-    (map (board.the-field .into) xs) us)
-    → shadow (each Board (R .own) xs us)
+each-board : (xs : List Board) (us : List Val)
+    → shadow (each (board.the-field .row .Denot) (board.the-field .row .own) (map (board.the-field .into) xs) us) → shadow (each Board (R .own) xs us)
 each-board [] [] s = s
 each-board [] (u ∷ us) s = s
 each-board (x ∷ xs) [] s = s
@@ -140,8 +139,7 @@ turn n long i g h room less =
       there = omega (arith, h);
       fits = omega (arith, g);
       next = omega (arith, g);
-      offset = offset-fits i long room
-          (omega (arith, h));
+      offset = offset-fits i long room (omega (arith, h));
     }
 
 -- the code behind the first part of a sequence

@@ -91,8 +91,8 @@ module _ (κ : Lft) (b k : ℕ) (xs : List Board) where
     lends-local n is l room =
         qed W (‵ (fat fullShare (arr n) b 0 (aval xs)) ∷ []) ∵ updating ! $ use1 W (‵ (cells (mem R) xs b 0)) (to-cells 𝓤 H A W b n xs is) $
         use1 W (‵ (cells (mem R) (take k xs) b 0) ⊛ ‵ (cells (mem R) (drop-list k xs) b (place size 0 k))) (apart 𝓤 H A W b k xs 0 l) $ split ! $
-        use1 W (later (some (λ (γ : GName). ‵ (MutSlice ℓ κ R .own (at-front γ (take k xs)) (sliceVal (b, 0) (length (take k xs)) ∷ [])) ⊛ ‵
-        (flent κ (Held R (length (take k xs)) b 0 γ))))) (lends-slice 𝓤 H A W R ℓ κ (take k xs) b 0 room) $ await ! tt $ pick ! (λ γ. split ! $
+        use1 W (later (some (λ (γ : GName). ‵ (MutSlice ℓ κ R .own (at-front γ (take k xs)) (sliceVal (b, 0) (length (take k xs)) ∷ [])) ⊛
+        ‵ (flent κ (Held R (length (take k xs)) b 0 γ))))) (lends-slice 𝓤 H A W R ℓ κ (take k xs) b 0 room) $ await ! tt $ pick ! (λ γ. split ! $
         at-once ! $ show ! (λ (δ : GName). sep 𝓤 (sem 𝓤 H A (MutSlice ℓ κ R .own (at-front δ (take k xs))
         (sliceVal (b, 0) (length (take k xs)) ∷ []))) (sem 𝓤 H A (Kept δ))) γ $ frame ! $ fjoin ! $ done !)
 

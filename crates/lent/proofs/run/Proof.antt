@@ -278,13 +278,12 @@ module _ {M : Type 1} (𝓤 : URA M) (H : Heap 𝓤) (A : Atoms 𝓤) (W : Given
     walk : ent 𝓤 (onEntry 𝓤 H A f.signature (κ₀, (κ₁, (κ₂, tt))) (q₀, (q₁, (q₂, tt))) x at)
         (WpFn 𝓤 H (𝓣 .C) (𝓣 .Λ) code.function (LL.val N.the-type N′.the-laws m ∷ s₀ ∷ s₁ ∷ s₂ ∷ []) Post)
     walk =
-        qed W ((‵ (flft κ₀ q₀) ⊛ ‵ (flft κ₁ q₁) ⊛ ‵ (flft κ₂ q₂) ⊛ ‵ ftrue) ∷ ‵
-        (owns (N.the-row ∷ MutSlice (named 0) κ₀ R ∷ ShrSlice (named 1) κ₁ u8 ∷ MutSlice (named 2) κ₂ u16 ∷ []) x at) ∷ []) ∵
+        qed W ((‵ (flft κ₀ q₀) ⊛ ‵ (flft κ₁ q₁) ⊛ ‵ (flft κ₂ q₂) ⊛ ‵ ftrue) ∷
+        ‵ (owns (N.the-row ∷ MutSlice (named 0) κ₀ R ∷ ShrSlice (named 1) κ₁ u8 ∷ MutSlice (named 2) κ₂ u16 ∷ []) x at) ∷ []) ∵
         enter ! (𝓣 .C) (𝓣 .Λ) code.function (LL.val N.the-type N′.the-laws m ∷ s₀ ∷ s₁ ∷ s₂ ∷ []) _ $
-        alloc1 ! (λ l₀. alloc1 ! (λ l₁. alloc1 ! (λ l₂. alloc1 ! (λ l₃. alloc1 !
-        (λ l₄. alloc1 ! (λ l₅. alloc1 ! (λ l₆. alloc1 ! (λ l₇. alloc1 ! (λ l₈. alloc1 !
-        (λ l₉. alloc1 ! (λ l₁₀. alloc1 ! (λ l₁₁. alloc1 ! (λ l₁₂. alloc1 ! (λ l₁₃. alloc1 !
-        (λ l₁₄. alloc1 ! (λ l₁₅. alloc1 ! (λ l₁₆. alloc0 ! $ params1 ! $
+        alloc1 ! (λ l₀. alloc1 ! (λ l₁. alloc1 ! (λ l₂. alloc1 ! (λ l₃. alloc1 ! (λ l₄. alloc1 ! (λ l₅. alloc1 ! (λ l₆. alloc1 ! (λ l₇.
+        alloc1 ! (λ l₈. alloc1 ! (λ l₉. alloc1 ! (λ l₁₀. alloc1 ! (λ l₁₁. alloc1 ! (λ l₁₂. alloc1 ! (λ l₁₃. alloc1 ! (λ l₁₄.
+        alloc1 ! (λ l₁₅. alloc1 ! (λ l₁₆. alloc0 ! $ params1 ! $
         pass1 ! (init ! (cell 0 1) refl (LL.lawful N.the-type N′.the-laws 𝓤 H A W .typed m _ is-m .0)) $
         pass1 ! (init ! (cell 0 2) refl (tt, (tt, (record { fits = room .0 }, tt)))) $
         pass1 ! (init ! (cell 0 3) refl (tt, (tt, (record { fits = room₁ .0 }, tt)))) $
@@ -306,8 +305,8 @@ module _ {M : Type 1} (𝓤 : URA M) (H : Heap 𝓤) (A : Atoms 𝓤) (W : Given
         (λ w₂ r₂ e₂ is₂.
         land ! (into !) (init ! (cell 6 11) refl (atyped 𝓤 H A W 32 r₂ w₂ is₂)) $
         rewrite ! (cell 6 11) (λ (u : Val). ‵ (fat fullShare (arr 32) l₁₁ 0 u)) (ap only (atells 32 r₂ _ is₂) ∙ ap aval e₂) refl $
-        lft-new ! tt (λ ν. move ! (6 ∷ 3 ∷ []) $ use2 W (later (some (λ (δ : GName). ‵ (ShrSlice (named 0) (ν ∷ []) R .own (x₀ δ ys) (s₀ ∷ [])) ⊛ ‵
-        (LentShared R κ₀ (ν ∷ []) q₀ γ b o ys)))) (lends-shared R κ₀ (ν ∷ []) q₀ γ b o 𝓤 H A W (named 0) (named 0) ys) $ await ! tt $
+        lft-new ! tt (λ ν. move ! (6 ∷ 3 ∷ []) $ use2 W (later (some (λ (δ : GName). ‵ (ShrSlice (named 0) (ν ∷ []) R .own (x₀ δ ys) (s₀ ∷ [])) ⊛
+        ‵ (LentShared R κ₀ (ν ∷ []) q₀ γ b o ys)))) (lends-shared R κ₀ (ν ∷ []) q₀ γ b o 𝓤 H A W (named 0) (named 0) ys) $ await ! tt $
         pick ! (λ δ. split ! $
         move ! (2 ∷ 0 ∷ []) $ use2 W (raw (Load 𝓤 H A mem run .pre (to-load ν δ))) (goes-load (known-as zs r₂ w₂ e₂ is₂) ν δ) $
         -- [what `load` asks; what is kept; flips' token; cells'; cells; flips; the locals]

@@ -216,8 +216,8 @@ module _ {M : Type 1} (𝓤 : URA M) (H : Heap 𝓤) (A : Atoms 𝓤) (W : Given
       (sep 𝓤 (sem 𝓤 H A (MutSlice (named 0) (ν ∷ []) R .own (x₀ l δ) (sliceVal (l, 0) (length ys) ∷ []))) (sep 𝓤 (sem 𝓤 H A Fl) (sem 𝓤 H A Ce))))
       (Run 𝓤 H A mem run .pre (to-run l ν δ))
   goes-run l ν δ =
-      qed W ((‵ (flft (ν ∷ []) fullShare) ⊛ ‵ (flft κ₁ q₁) ⊛ ‵ (flft κ₂ q₂) ⊛ ‵ ftrue) ∷ ‵
-      (MutSlice (named 0) (ν ∷ []) R .own (x₀ l δ) (sliceVal (l, 0) (length ys) ∷ [])) ∷ (‵ Fl ⊛ ‵ Ce) ∷ []) ∵
+      qed W ((‵ (flft (ν ∷ []) fullShare) ⊛ ‵ (flft κ₁ q₁) ⊛ ‵ (flft κ₂ q₂) ⊛ ‵ ftrue) ∷
+      ‵ (MutSlice (named 0) (ν ∷ []) R .own (x₀ l δ) (sliceVal (l, 0) (length ys) ∷ [])) ∷ (‵ Fl ⊛ ‵ Ce) ∷ []) ∵
       move ! (2 ∷ []) $ split ! $ nothing ! $ move ! (2 ∷ 0 ∷ []) $ fjoin ! $ move ! (1 ∷ 0 ∷ []) $ fjoin ! $ move ! (2 ∷ 0 ∷ []) $ fjoin ! $
       owned ! N.the-row (Is N.the-row) (LL.makes N.the-type N′.the-plain 𝓤 H A) m _ is-m $ fjoin ! $
       nothing ! $ move ! (2 ∷ 1 ∷ 0 ∷ []) $ join ! $ join ! $ done !
@@ -235,12 +235,11 @@ module _ {M : Type 1} (𝓤 : URA M) (H : Heap 𝓤) (A : Atoms 𝓤) (W : Given
     walk : ent 𝓤 (onEntry 𝓤 H A f.signature (κ₁, (κ₂, tt)) (q₁, (q₂, tt)) x at)
         (WpFn 𝓤 H (𝓣 .C) (𝓣 .Λ) code.function (vm ∷ aval xs ∷ vint w64 n ∷ s₁ ∷ s₂ ∷ []) Post)
     walk =
-        qed W ((‵ (flft κ₁ q₁) ⊛ ‵ (flft κ₂ q₂) ⊛ ‵ ftrue) ∷ ‵
-        (owns (N.the-row ∷ Arr 40 ∷ usize ∷ ShrSlice (named 0) κ₁ u8 ∷ MutSlice (named 1) κ₂ u16 ∷ []) x at) ∷ []) ∵
+        qed W ((‵ (flft κ₁ q₁) ⊛ ‵ (flft κ₂ q₂) ⊛ ‵ ftrue) ∷
+        ‵ (owns (N.the-row ∷ Arr 40 ∷ usize ∷ ShrSlice (named 0) κ₁ u8 ∷ MutSlice (named 1) κ₂ u16 ∷ []) x at) ∷ []) ∵
         enter ! (𝓣 .C) (𝓣 .Λ) code.function (vm ∷ aval xs ∷ vint w64 n ∷ s₁ ∷ s₂ ∷ []) _ $
-        alloc1 ! (λ l₀. alloc1 ! (λ l₁. alloc1 ! (λ l₂. alloc1 ! (λ l₃. alloc1 !
-        (λ l₄. alloc1 ! (λ l₅. alloc1 ! (λ l₆. alloc1 ! (λ l₇. alloc1 ! (λ l₈. alloc1 !
-        (λ l₉. alloc1 ! (λ l₁₀. alloc1 ! (λ l₁₁. alloc1 ! (λ l₁₂. alloc1 ! (λ l₁₃. alloc0 ! $ params1 ! $
+        alloc1 ! (λ l₀. alloc1 ! (λ l₁. alloc1 ! (λ l₂. alloc1 ! (λ l₃. alloc1 ! (λ l₄. alloc1 ! (λ l₅. alloc1 ! (λ l₆. alloc1 ! (λ l₇.
+        alloc1 ! (λ l₈. alloc1 ! (λ l₉. alloc1 ! (λ l₁₀. alloc1 ! (λ l₁₁. alloc1 ! (λ l₁₂. alloc1 ! (λ l₁₃. alloc0 ! $ params1 ! $
         pass1 ! (init ! (cell 0 1) refl (LL.lawful N.the-type N′.the-laws 𝓤 H A W .typed m _ is-m .0)) $
         pass1 ! (init ! (cell 0 2) refl (atyped 𝓤 H A W 40 xs _ is-xs)) $ pass1 ! (init ! (cell 0 3) refl (tt, record { fits = gn })) $
         pass1 ! (init ! (cell 0 4) refl (tt, (tt, (record { fits = room₁ .0 }, tt)))) $
@@ -262,8 +261,8 @@ module _ {M : Type 1} (𝓤 : URA M) (H : Heap 𝓤) (A : Atoms 𝓤) (W : Given
         assigns ! (agg ! (and-then ! (local ! (cell 4 11) refl) (and-then ! (part ! (cell 4 5) 1 refl refl refl) (no-more !)))) (into !)
         (init ! (cell 4 12) refl (tt, (tt, (record { fits = room₂ .0 }, tt)))) $
         -- the array's first k places are lent for a lifetime ν of the call; flips are copied, and cells go for good
-        lft-new ! tt (λ ν. move ! (19 ∷ []) $ use1 W (later (some (λ (δ : GName). ‵
-        (MutSlice (named 0) (ν ∷ []) R .own (x₀ l₆ δ) (sliceVal (l₆, 0) (length ys) ∷ [])) ⊛ ‵ (Kept (ν ∷ []) l₆ k xs δ))))
+        lft-new ! tt (λ ν. move ! (19 ∷ []) $ use1 W (later (some (λ (δ : GName).
+        ‵ (MutSlice (named 0) (ν ∷ []) R .own (x₀ l₆ δ) (sliceVal (l₆, 0) (length ys) ∷ [])) ⊛ ‵ (Kept (ν ∷ []) l₆ k xs δ))))
         (lends-local (ν ∷ []) l₆ k xs 𝓤 H A W (named 0) 40 is-xs k-there room) $ await ! tt $ pick ! (λ δ. split ! $
         move ! (6 ∷ []) $ use1 W (‵ Fl ⊛ ‵ Fl) (shr-slice-copy 𝓤 H A W (named 0) κ₁ u8 .twice x₁ (s₁ ∷ [])) $ split ! $ move ! (5 ∷ 6 ∷ []) $ join ! $
         move ! (5 ∷ 0 ∷ []) $ join ! $ move ! (1 ∷ 5 ∷ []) $ join ! $ move ! (1 ∷ 3 ∷ 0 ∷ []) $

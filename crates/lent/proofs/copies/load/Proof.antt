@@ -133,16 +133,16 @@ module _ {M : Type 1} (𝓤 : URA M) (H : Heap 𝓤) (A : Atoms 𝓤) (W : Given
         (board′.mir, l₈) ∷ []
 
     abbrev At : Here → List (Item 𝓤)
-    At i = ‵ (row R q′ ys b o) ∷ ‵ (fobor κ q (arr-parts (shares R) (length ys) .part q′ ys b o)) ∷ ‵
-        (fshr-bor κ (λ s. arr-parts (shares R) (length ys) .part s ys b o)) ∷ ‵ (fres γ (codedHoleys R .code (heres R ys))) ∷ ‵
-        (at-slice R (x .0) (at .0))
-        ∷ ‵ (froom board′.mir l₈ 0) ∷ ‵ (fdies board′.mir l₈) ∷ ‵ (froom tyPtr l₇ 0) ∷ ‵ (fdies tyPtr l₇) ∷ ‵ (froom word l₆ 0) ∷ ‵
-        (fdies word l₆) ∷ ‵
-        (froom tyBool l₅ 0) ∷ ‵ (fdies tyBool l₅)
-        ∷ ‵ (fat fullShare word l₄ 0 (vint w64 (i .0))) ∷ ‵ (fdies word l₄) ∷ ‵ (fat fullShare word l₃ 0 (vint w64 n)) ∷ ‵ (fdies word l₃) ∷ ‵
-        (fat fullShare (arr 32) l₂ 0 (aval (st (i .0)))) ∷ ‵ (fdies (arr 32) l₂)
-        ∷ ‵ (fat fullShare (list (named 0) imm) l₁ 0 (sliceVal (b, o) (length ys))) ∷ ‵ (fdies (list (named 0) imm) l₁) ∷ ‵ (froom (arr 32) l₀ 0) ∷ ‵
-        (fdies (arr 32) l₀) ∷ []
+    At i = ‵ (row R q′ ys b o) ∷ ‵ (fobor κ q (arr-parts (shares R) (length ys) .part q′ ys b o)) ∷
+        ‵ (fshr-bor κ (λ s. arr-parts (shares R) (length ys) .part s ys b o)) ∷ ‵ (fres γ (codedHoleys R .code (heres R ys))) ∷
+        ‵ (at-slice R (x .0) (at .0))
+        ∷ ‵ (froom board′.mir l₈ 0) ∷ ‵ (fdies board′.mir l₈) ∷ ‵ (froom tyPtr l₇ 0) ∷ ‵ (fdies tyPtr l₇) ∷ ‵ (froom word l₆ 0) ∷
+        ‵ (fdies word l₆) ∷
+        ‵ (froom tyBool l₅ 0) ∷ ‵ (fdies tyBool l₅)
+        ∷ ‵ (fat fullShare word l₄ 0 (vint w64 (i .0))) ∷ ‵ (fdies word l₄) ∷ ‵ (fat fullShare word l₃ 0 (vint w64 n)) ∷ ‵ (fdies word l₃) ∷
+        ‵ (fat fullShare (arr 32) l₂ 0 (aval (st (i .0)))) ∷ ‵ (fdies (arr 32) l₂)
+        ∷ ‵ (fat fullShare (list (named 0) imm) l₁ 0 (sliceVal (b, o) (length ys))) ∷ ‵ (fdies (list (named 0) imm) l₁) ∷ ‵ (froom (arr 32) l₀ 0) ∷
+        ‵ (fdies (arr 32) l₀) ∷ []
 
     -- a turn's postcondition: it ends nearer to n, or the loop is left and the rest of the body runs
     abbrev Turned : Here → Out → SProp 𝓤
@@ -210,8 +210,8 @@ module _ {M : Type 1} (𝓤 : URA M) (H : Heap 𝓤) (A : Atoms 𝓤) (W : Given
   walk 𝓣 fm known =
       qed W ((‵ (flft κ q) ⊛ ‵ ftrue) ∷ ‵ (owns (ShrSlice (named 0) κ R ∷ Arr 32 ∷ usize ∷ []) x at) ∷ []) ∵
       enter ! (𝓣 .C) (𝓣 .Λ) code.function (sliceVal (b, o) (length ys) ∷ aval a ∷ vint w64 n ∷ []) _ $
-      alloc1 ! (λ l₀. alloc1 ! (λ l₁. alloc1 ! (λ l₂. alloc1 ! (λ l₃. alloc1 !
-      (λ l₄. alloc1 ! (λ l₅. alloc1 ! (λ l₆. alloc1 ! (λ l₇. alloc1 ! (λ l₈. alloc0 ! $ params1 ! $
+      alloc1 ! (λ l₀. alloc1 ! (λ l₁. alloc1 ! (λ l₂. alloc1 ! (λ l₃. alloc1 ! (λ l₄. alloc1 ! (λ l₅. alloc1 ! (λ l₆. alloc1 ! (λ l₇.
+      alloc1 ! (λ l₈. alloc0 ! $ params1 ! $
       pass1 ! (init ! (cell 0 1) refl (tt, (tt, (record { fits = room .0 }, tt)))) $ pass1 ! (init ! (cell 0 2) refl (atyped 𝓤 H A W 32 a _ is-a)) $
       pass1 ! (init ! (cell 0 3) refl (tt, record { fits = gn })) $ pass0 ! $
       assigns ! (of-opd ! (lit ! tt)) (into !) (init ! (cell 0 4) refl (tt, record { fits = lit< tt })) $

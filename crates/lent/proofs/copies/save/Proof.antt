@@ -135,15 +135,15 @@ module _ {M : Type 1} (𝓤 : URA M) (H : Heap 𝓤) (A : Atoms 𝓤) (W : Given
         (tyPtr, l₈) ∷ []
 
     abbrev At : Here → List (Item 𝓤)
-    At i = ‵ (row R fullShare (st (i .0)) b o) ∷ ‵ (fobor κ q (Held R (length ys) b o γ)) ∷ ‵ (fobs γ (codedHoleys R .code (heres R ys))) ∷ ‵
-        (fauth γ (codedHoleys R .code (heres R ys)))
-        ∷ ‵ (froom tyPtr l₈ 0) ∷ ‵ (fdies tyPtr l₈) ∷ ‵ (froom word l₇ 0) ∷ ‵ (fdies word l₇) ∷ ‵ (froom board′.mir l₆ 0) ∷ ‵
-        (fdies board′.mir l₆) ∷ ‵
-        (froom tyBool l₅ 0) ∷ ‵ (fdies tyBool l₅)
-        ∷ ‵ (fat fullShare word l₄ 0 (vint w64 (i .0))) ∷ ‵ (fdies word l₄) ∷ ‵ (fat fullShare word l₃ 0 (vint w64 n)) ∷ ‵ (fdies word l₃) ∷ ‵
-        (fat fullShare (arr 32) l₂ 0 (aval a)) ∷ ‵ (fdies (arr 32) l₂)
-        ∷ ‵ (fat fullShare (list (named 0) mut) l₁ 0 (sliceVal (b, o) (length ys))) ∷ ‵ (fdies (list (named 0) mut) l₁) ∷ ‵ (froom tyUnit l₀ 0) ∷ ‵
-        (fdies tyUnit l₀) ∷ []
+    At i = ‵ (row R fullShare (st (i .0)) b o) ∷ ‵ (fobor κ q (Held R (length ys) b o γ)) ∷ ‵ (fobs γ (codedHoleys R .code (heres R ys))) ∷
+        ‵ (fauth γ (codedHoleys R .code (heres R ys)))
+        ∷ ‵ (froom tyPtr l₈ 0) ∷ ‵ (fdies tyPtr l₈) ∷ ‵ (froom word l₇ 0) ∷ ‵ (fdies word l₇) ∷ ‵ (froom board′.mir l₆ 0) ∷
+        ‵ (fdies board′.mir l₆) ∷
+        ‵ (froom tyBool l₅ 0) ∷ ‵ (fdies tyBool l₅)
+        ∷ ‵ (fat fullShare word l₄ 0 (vint w64 (i .0))) ∷ ‵ (fdies word l₄) ∷ ‵ (fat fullShare word l₃ 0 (vint w64 n)) ∷ ‵ (fdies word l₃) ∷
+        ‵ (fat fullShare (arr 32) l₂ 0 (aval a)) ∷ ‵ (fdies (arr 32) l₂)
+        ∷ ‵ (fat fullShare (list (named 0) mut) l₁ 0 (sliceVal (b, o) (length ys))) ∷ ‵ (fdies (list (named 0) mut) l₁) ∷ ‵ (froom tyUnit l₀ 0) ∷
+        ‵ (fdies tyUnit l₀) ∷ []
 
     -- a turn's postcondition: it ends nearer to n, or the loop is left and the rest of the body runs
     abbrev Turned : Here → Out → SProp 𝓤
@@ -212,8 +212,8 @@ module _ {M : Type 1} (𝓤 : URA M) (H : Heap 𝓤) (A : Atoms 𝓤) (W : Given
   walk 𝓣 fm known =
       qed W ((‵ (flft κ q) ⊛ ‵ ftrue) ∷ ‵ (owns (MutSlice (named 0) κ R ∷ Arr 32 ∷ usize ∷ []) (s ys, (a, (n, tt))) at) ∷ []) ∵
       enter ! (𝓣 .C) (𝓣 .Λ) code.function (sliceVal (b, o) (length ys) ∷ aval a ∷ vint w64 n ∷ []) _ $
-      alloc1 ! (λ l₀. alloc1 ! (λ l₁. alloc1 ! (λ l₂. alloc1 ! (λ l₃. alloc1 !
-      (λ l₄. alloc1 ! (λ l₅. alloc1 ! (λ l₆. alloc1 ! (λ l₇. alloc1 ! (λ l₈. alloc0 ! $ params1 ! $
+      alloc1 ! (λ l₀. alloc1 ! (λ l₁. alloc1 ! (λ l₂. alloc1 ! (λ l₃. alloc1 ! (λ l₄. alloc1 ! (λ l₅. alloc1 ! (λ l₆. alloc1 ! (λ l₇.
+      alloc1 ! (λ l₈. alloc0 ! $ params1 ! $
       pass1 ! (init ! (cell 0 1) refl (tt, (tt, (record { fits = room .0 }, tt)))) $ pass1 ! (init ! (cell 0 2) refl (atyped 𝓤 H A W 32 a _ is-a)) $
       pass1 ! (init ! (cell 0 3) refl (tt, record { fits = gn })) $ pass0 ! $
       assigns ! (of-opd ! (lit ! tt)) (into !) (init ! (cell 0 4) refl (tt, record { fits = lit< tt })) $
