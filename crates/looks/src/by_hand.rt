@@ -25,7 +25,7 @@ pub fn changed(m: Machine, letter: u8, given: Numbers) -> Machine {
 }
 
 // The moment of a number.
-fn moment_of(number: u64) -> Moment {
+pub fn moment_of(number: u64) -> Moment {
     match number {
         0 => Moment::Idle,
         1 => Moment::Opened,

@@ -15,7 +15,7 @@ pub fn moment(m: Machine) -> Numbers {
 }
 
 // The number of a moment.
-fn number_of(moment: Moment) -> u64 {
+pub fn number_of(moment: Moment) -> u64 {
     match moment {
         Moment::Idle => 0,
         Moment::Opened => 1,
