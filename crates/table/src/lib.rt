@@ -1,9 +1,6 @@
 // The table: bus facts and rows together, its tickets, and whether it keeps the rules.
 ghost use mathlib.Core.Path.{_≡_};
-ghost use Prim.Native.Nat.{_+_, _<_};
-ghost use lib.ListN.{getD, drop};
 ghost use Rattle.lists.specs.Lists.{all, pairwise};
-ghost use Rattle.rows.specs.Rows.{noRow};
 ghost use Rattle.table.specs.Tickets.{ticketRefusal};
 ghost use Rattle.table.specs.Sound.{staticAllowed, usedRight, rowRight, inOrder, sound};
 ghost use Rattle.table.specs.Sound.{distinct as Sound·distinct};
@@ -37,14 +34,24 @@ pub fn static_allowed(f: Facts, address: u8) -> bool
     (0x08 <= address) & (address <= 0x77) & !slots::is_legacy(legacy, address)
 }
 
-// Whether a row keeps the rules by itself.
+// Whether a row keeps the rules by itself. It is done with the first rule that is broken.
 fn used_right(f: Facts, r: Row) -> bool
     ensures { λ o. ⌜ o ≡ usedRight f r ⌝ }
 {
-    slots::is_open(f, r.address)
-        & ((1 <= r.ticket) & (r.ticket <= f.last))
-        & (!r.unknown | (r.identity == 0))
-        & ((r.from_static == 0) | static_allowed(f, r.from_static))
+    if !slots::is_open(f, r.address) {
+        return false;
+    }
+    if !((1 <= r.ticket) & (r.ticket <= f.last)) {
+        return false;
+    }
+    if r.unknown & (r.identity != 0) {
+        return false;
+    }
+    if r.from_static == 0 {
+        true
+    } else {
+        static_allowed(f, r.from_static)
+    }
 }
 
 // Whether a place is right: a row that keeps the rules, or unused and all zero.
@@ -67,12 +74,20 @@ fn distinct(x: Row, y: Row) -> bool
         & ((x.from_static == 0) | (x.from_static != y.from_static))
 }
 
-// Whether y may stand behind x.
+// Whether y may stand behind x: an unused y may, whatever x is.
 fn in_order(x: Row, y: Row) -> bool
     ensures { λ o. ⌜ o ≡ inOrder x y ⌝ }
 {
-    let used = y.address != 0;
-    !used | ((x.address != 0) & (x.address < y.address) & distinct(x, y))
+    if y.address == 0 {
+        return true;
+    }
+    if x.address == 0 {
+        return false;
+    }
+    if y.address <= x.address {
+        return false;
+    }
+    distinct(x, y)
 }
 
 // Whether every place is right by itself.
@@ -90,31 +105,23 @@ fn rows_right(f: Facts, rows: [Row; 32]) -> bool
     true
 }
 
-// Whether every place behind place i may stand behind the row there.
-fn rest_in_order(rows: [Row; 32], i: usize) -> bool
-    requires { ⌜ i < 32 ⌝ }
-    ensures { λ r. ⌜ r ≡ all (inOrder (getD rows i noRow)) (drop (i + 1) rows) ⌝ }
-{
-    let x = rows[i];
-    let mut j = i + 1;
-    while j < 32 {
-        let y = rows[j];
-        if !in_order(x, y) {
-            return false;
-        }
-        j += 1;
-    }
-    true
-}
-
-// Whether any two places are in order.
+// Whether any two places are in order. It is done with the first unused one: what may stand behind that is unused, and so in order.
 fn rows_in_order(rows: [Row; 32]) -> bool
     ensures { λ r. ⌜ r ≡ pairwise inOrder rows ⌝ }
 {
     let mut i: usize = 0;
     while i < 32 {
-        if !rest_in_order(rows, i) {
-            return false;
+        let x = rows[i];
+        let mut j = i + 1;
+        while j < 32 {
+            let y = rows[j];
+            if !in_order(x, y) {
+                return false;
+            }
+            j += 1;
+        }
+        if x.address == 0 {
+            return true;
         }
         i += 1;
     }

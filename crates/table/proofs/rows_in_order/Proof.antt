@@ -1,13 +1,23 @@
--- `table::rows_in_order` meets its contract: a search loop.
+-- `table::rows_in_order` meets its contract: a search loop in a search loop.
+use Prim.Native.Nat.{_+_, _-_}
+use mathlib.Core.Path.{sym}
+use lib.ListN.{drop}
+use Rattle.lists.specs.Lists.{all}
 use Rattle.lists.proofs.Bools.{via}
 use borrow.Author.Tests.{not-true, not-false}
 use Rattle.rows.specs.Rows.{noRow}
-use Rattle.lists.proofs.Loops.{Pairs, pairs-start, pairs-turn, pairs-found, pairs-ended}
+use Rattle.lists.proofs.Loops.{All, all-start-at, all-turn, all-found, all-ended, Pairs, pairs-start, pairs-turn, pairs-found, pairs-ended}
 use Rattle.table.specs.Sound.{inOrder}
+use Rattle.table.proofs.Laws.{in-order-from-unused}
 use native.Mathlib.Omega.{arith}
-use Prim.Native.Nat.{_-_}
 use Rattle.table.proofs.rows_in_order.Statement.{statement}
 use Rattle.table.proofs.rows_in_order.Tie as tie
+
+abbrev Inv-loop2 : tie.InvT-loop2
+Inv-loop2 rows i x j₀ j = All (inOrder x) rows noRow (all (inOrder x) (drop (i + 1) rows)) 32 j
+
+abbrev μ-loop2 : tie.MeasureT-loop2
+μ-loop2 rows i x j₀ j = 32 - j
 
 abbrev Inv-loop : tie.InvT-loop
 Inv-loop rows i₀ i = Pairs inOrder rows noRow 32 i
@@ -15,37 +25,79 @@ Inv-loop rows i₀ i = Pairs inOrder rows noRow 32 i
 abbrev μ-loop : tie.MeasureT-loop
 μ-loop rows i₀ i = 32 - i
 
-loop-holds : tie.Need-loop-holds Inv-loop μ-loop
+loop-holds : tie.Need-loop-holds Inv-loop2 μ-loop2 Inv-loop μ-loop
 loop-holds c = pairs-start (omega arith)
 
-rest-in-order-requires : tie.Need-rest-in-order-requires Inv-loop μ-loop
-rest-in-order-requires c κs = omega arith
+mul-x : tie.Need-mul-x Inv-loop2 μ-loop2 Inv-loop μ-loop
+mul-x c = omega arith
 
-returns : tie.Need-returns Inv-loop μ-loop
-returns c = search (pairs-found, via, not-true)
+array-copy-out-x : tie.Need-array-copy-out-x Inv-loop2 μ-loop2 Inv-loop μ-loop
+array-copy-out-x c = omega arith
 
-add-i : tie.Need-add-i Inv-loop μ-loop
+add-j : tie.Need-add-j Inv-loop2 μ-loop2 Inv-loop μ-loop
+add-j c = omega arith
+
+loop2-holds : tie.Need-loop2-holds Inv-loop2 μ-loop2 Inv-loop μ-loop
+loop2-holds c = all-start-at _ (omega arith) (omega arith)
+
+mul-y : tie.Need-mul-y Inv-loop2 μ-loop2 Inv-loop μ-loop
+mul-y c = omega arith
+
+array-copy-out-y : tie.Need-array-copy-out-y Inv-loop2 μ-loop2 Inv-loop μ-loop
+array-copy-out-y c = omega arith
+
+in-order-requires : tie.Need-in-order-requires Inv-loop2 μ-loop2 Inv-loop μ-loop
+in-order-requires c κs = tt
+
+returns : tie.Need-returns Inv-loop2 μ-loop2 Inv-loop μ-loop
+returns c = search (pairs-found, all-found, sym, via, not-true)
+
+add-j-2 : tie.Need-add-j-2 Inv-loop2 μ-loop2 Inv-loop μ-loop
+add-j-2 c = omega arith
+
+loop2-less : tie.Need-loop2-less Inv-loop2 μ-loop2 Inv-loop μ-loop
+loop2-less c = omega arith
+
+loop2-again : tie.Need-loop2-again Inv-loop2 μ-loop2 Inv-loop μ-loop
+loop2-again c = search (all-turn, via, not-false)
+
+returns-2 : tie.Need-returns-2 Inv-loop2 μ-loop2 Inv-loop μ-loop
+returns-2 c = search (in-order-from-unused, all-ended, sym)
+
+add-i : tie.Need-add-i Inv-loop2 μ-loop2 Inv-loop μ-loop
 add-i c = omega arith
 
-loop-less : tie.Need-loop-less Inv-loop μ-loop
+loop-less : tie.Need-loop-less Inv-loop2 μ-loop2 Inv-loop μ-loop
 loop-less c = omega arith
 
-loop-again : tie.Need-loop-again Inv-loop μ-loop
-loop-again c = search (pairs-turn, via, not-false)
+loop-again : tie.Need-loop-again Inv-loop2 μ-loop2 Inv-loop μ-loop
+loop-again c = search (pairs-turn, all-ended, sym)
 
-returns-2 : tie.Need-returns-2 Inv-loop μ-loop
-returns-2 c = search pairs-ended
+returns-3 : tie.Need-returns-3 Inv-loop2 μ-loop2 Inv-loop μ-loop
+returns-3 c = search pairs-ended
 
 pub rows-in-order-spec : {M : Type 1} → statement M
 rows-in-order-spec =
     tie.close
     (tie.spec
+    Inv-loop2
+    μ-loop2
     Inv-loop
     μ-loop
     loop-holds
-    rest-in-order-requires
+    mul-x
+    array-copy-out-x
+    add-j
+    loop2-holds
+    mul-y
+    array-copy-out-y
+    in-order-requires
     returns
+    add-j-2
+    loop2-less
+    loop2-again
+    returns-2
     add-i
     loop-less
     loop-again
-    returns-2)
+    returns-3)
