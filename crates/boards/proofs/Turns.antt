@@ -1,18 +1,18 @@
 -- The loops of this crate, one turn at a time: over the boards and their flags side by side, and over the bits of a round.
 use mathlib.Core.Path.{_≡_, refl, sym, _∙_}
-use mathlib.Core.Bool.{Bool, true, false, _&&_}
+use mathlib.Core.Bool.{Bool, true, false, cond, _&&_, and-true}
 use mathlib.Core.List.{List, [], _∷_, _++_, zipWith}
 use Prim.Native.Nat.{ℕ, zero, suc, _+_, _-_, _*_, _^_, _<_, _≤_}
-use native.Mathlib.Nat.{not-suc-le-zero, pow-suc, le-of-suc-le-suc}
+use native.Mathlib.Nat.{not-suc-le-zero, pow-suc, le-of-suc-le-suc, suc-inj}
 use native.Mathlib.Omega.{arith}
-use borrow.Author.Tests.{lt-ltb, le-ltb}
+use borrow.Author.Tests.{lt-ltb, le-ltb, le-leb}
 use lib.Dec.{ltb, leb·suc-suc}
-use lib.ListN.{length, take, getD, replicate, length-append, length-take, length-map, length-replicate, getD-replicate}
+use lib.ListN.{length, take, getD, replicate, length-append, length-take, length-map, length-replicate, length-set, getD-replicate, set}
 use lib.Pow.{pow-mono}
 use Rattle.lists.proofs.Loops.{Any, any-start, any-turn, any-found, any-ended}
-use Rattle.lists.proofs.Zips.{zip-at, zip-long}
+use Rattle.lists.proofs.Zips.{zip-at, zip-long, zipping, zip-turn, zip-done}
 use Rattle.boards.specs.declared.Board.{Board}
-use Rattle.boards.specs.Wire.{waits, waiting, waitingFirst, wireBit, sendsZero, stayIn, hear}
+use Rattle.boards.specs.Wire.{waits, waiting, waitingFirst, anyone, sent, wireBit, sendsZero, keepsIn, stayIn, hear}
 
 -- ---- who answers
 
@@ -67,24 +67,107 @@ module _ {k : ℕ} {bs : List Board} {fs : List Bool} {n i : ℕ} (v : NoZero k 
   pub zero-ended : n ≤ i → 1 ≡ wireBit k bs fs
   zero-ended h = rw (← any-ended (v .below) h)
 
+-- a bit is 0 or 1
+bit-small : (k : ℕ) (bs : List Board) (fs : List Bool) → wireBit k bs fs < 2
+bit-small k bs fs = go (anyone (zipWith (sendsZero k) bs fs))
+  where
+    go : (b : Bool) → cond b 0 1 < 2
+    go true = omega arith
+    go false = omega arith
+
+-- ---- who stays in
+
+-- the flags below j are settled, and those from j on are as they came
+pub record Settled (k seen : ℕ) (bs : List Board) (fs kept : List Bool) (n j : ℕ) : Type 0 where
+  pub boards : length bs ≡ n
+  pub flags : length kept ≡ n
+  pub same : zipping (keepsIn k seen) bs kept j ≡ stayIn k seen bs fs
+
+module _ {k seen : ℕ} {bs : List Board} {fs : List Bool} {n : ℕ} where
+  -- before the first
+  pub settled-start : length bs ≡ n → length fs ≡ n → Settled k seen bs fs fs n 0
+  settled-start p q = record { boards = p; flags = q; same = refl }
+
+module _ {k seen : ℕ} {bs : List Board} {fs kept : List Bool} {n j : ℕ} (v : Settled k seen bs fs kept n j) where
+  -- the next is settled
+  pub settled-turn : j < n → (d : Board) (f now : Bool) → now ≡ keepsIn k seen (getD bs j d) (getD kept j f)
+      → Settled k seen bs fs (set kept j now) n (j + 1)
+  settled-turn h d f now e =
+      let turn = zip-turn (keepsIn k seen) bs kept j d f (omega arith) (omega arith) in
+      record { boards = v .boards; flags = length-set kept j now ∙ v .flags; same = rw e (turn ∙ v .same) }
+
+  -- all are
+  pub settled-ended : n ≤ j → kept ≡ stayIn k seen bs fs
+  settled-ended h = sym (zip-done (keepsIn k seen) bs kept j (omega arith) (omega arith)) ∙ v .same
+
+-- at a 1 nobody leaves
+none-leaves : (k : ℕ) (bs : List Board) (fs : List Bool) → length bs ≡ length fs → stayIn k 1 bs fs ≡ fs
+unfolding zipWith
+none-leaves k [] [] e = refl
+none-leaves k [] (f ∷ fs) e = absurd (omega arith)
+none-leaves k (b ∷ bs) [] e = refl
+none-leaves k (b ∷ bs) (f ∷ fs) e = rw (le-leb (sent k b) 1 (omega arith), and-true f, none-leaves k bs fs (suc-inj e))
+
+-- so all stay at a bit that is not 0
+pub all-stay : (k seen : ℕ) (bs : List Board) (fs : List Bool) → length bs ≡ length fs → seen ≡ wireBit k bs fs → (seen ≡ 0 → ⊥)
+    → fs ≡ stayIn k seen bs fs
+all-stay k seen bs fs e bit h =
+    let one : seen ≡ 1 = omega (arith, bit, bit-small k bs fs, h) in
+    rw one (sym (none-leaves k bs fs e))
+
 -- ---- a round
 
 -- one bit
-pub hear-turn : (k : ℕ) (bs : List Board) (fs : List Bool) (h : ℕ) → 0 < k
+hear-turn : (k : ℕ) (bs : List Board) (fs : List Bool) (h : ℕ) → 0 < k
     → hear k bs fs h ≡ hear (k - 1) bs (stayIn (k - 1) (wireBit (k - 1) bs fs) bs fs) (h * 2 + wireBit (k - 1) bs fs)
 unfolding hear
 hear-turn zero bs fs h p = absurd (not-suc-le-zero p)
 hear-turn (suc k) bs fs h p = let e : suc k - 1 ≡ k = omega arith in rw e
 
 -- after the last
-pub hear-end : (k : ℕ) (bs : List Board) (fs : List Bool) (h : ℕ) → k ≤ 0 → hear k bs fs h ≡ record { identity = h; still = fs }
+hear-end : (k : ℕ) (bs : List Board) (fs : List Bool) (h : ℕ) → k ≤ 0 → hear k bs fs h ≡ record { identity = h; still = fs }
 unfolding hear
 hear-end zero bs fs h p = refl
 hear-end (suc k) bs fs h p = absurd (not-suc-le-zero p)
 
 -- what is heard has a bit for each bit that is past
-pub hear-room : (n k h w : ℕ) → 0 < k → k ≤ n → h < 2 ^ (n - k) → w < 2 → (h * 2 + w < 2 ^ (n - (k - 1))) × (h * 2 + w < 2 ^ n)
+hear-room : (n k h w : ℕ) → 0 < k → k ≤ n → h < 2 ^ (n - k) → w < 2 → (h * 2 + w < 2 ^ (n - (k - 1))) × (h * 2 + w < 2 ^ n)
 hear-room n k h w p q r s =
     let e : n - (k - 1) ≡ suc (n - k) = omega arith in
     let one : h * 2 + w < 2 ^ (n - (k - 1)) = rw (e, pow-suc 2 (n - k)) (omega arith) in
     (one, omega (arith, pow-mono {i = n - (k - 1)} {j = n} (omega arith)))
+
+-- with k of n bits to come: what was heard and who is in lead to what the whole round hears
+pub record Hearing (n : ℕ) (bs : List Board) (fs kept : List Bool) (heard k : ℕ) : Type 0 where
+  pub inside : k ≤ n
+  pub flags : length kept ≡ length bs
+  pub small : heard < 2 ^ (n - k)
+  pub same : hear k bs kept heard ≡ hear n bs fs 0
+
+module _ {n : ℕ} {bs : List Board} {fs : List Bool} where
+  -- before the first bit
+  pub hearing-start : length fs ≡ length bs → Hearing n bs fs fs 0 n
+  hearing-start e =
+      let none : n - n ≡ 0 = omega arith in
+      record { inside = omega arith; flags = e; small = rw none (omega arith); same = refl }
+
+module _ {n : ℕ} {bs : List Board} {fs kept : List Bool} {heard k : ℕ} (v : Hearing n bs fs kept heard k) where
+  -- there is room for one bit more
+  pub hearing-room : 0 < k → (seen : ℕ) → seen ≡ wireBit (k - 1) bs kept
+      → (heard * 2 + seen < 2 ^ (n - (k - 1))) × (heard * 2 + seen < 2 ^ n)
+  hearing-room p seen bit = hear-room n k heard seen p (v .inside) (v .small) (rw bit (bit-small (k - 1) bs kept))
+
+  -- one bit
+  pub hearing-turn : 0 < k → (seen : ℕ) → seen ≡ wireBit (k - 1) bs kept → (next : List Bool) → next ≡ stayIn (k - 1) seen bs kept
+      → Hearing n bs fs next (heard * 2 + seen) (k - 1)
+  hearing-turn p seen bit next stay =
+      record {
+        inside = omega arith;
+        flags = rw stay (zip-long (keepsIn (k - 1) seen) bs kept (sym (v .flags)) ∙ v .flags);
+        small = hearing-room p seen bit .0;
+        same = rw (stay, bit) (sym (hear-turn k bs kept heard p) ∙ v .same);
+      }
+
+  -- after the last
+  pub hearing-ended : k ≤ 0 → record { identity = heard; still = kept } ≡ hear n bs fs 0
+  hearing-ended p = sym (hear-end k bs kept heard p) ∙ v .same

@@ -7,7 +7,7 @@
 //     let after = boards::offer(boards, heard.still, byte);
 ghost use mathlib.Core.Path.{_≡_};
 ghost use Prim.Native.Nat.{_<_};
-ghost use Rattle.boards.specs.Wire.{sendsZero, wireBit, keepsIn, stayIn, hear, takes, afterByte, waitingFirst};
+ghost use Rattle.boards.specs.Wire.{sendsZero, keepsIn, hear, takes, afterByte, waitingFirst};
 ghost use Rattle.boards.specs.Wire.{anyone as Wire·anyone, sent as Wire·sent};
 
 // A board: its identity (48-bit Provisioned ID, BCR, DCR, highest bit first), and its address, 0 for none.
@@ -67,42 +67,12 @@ fn sends_zero(k: u64, b: Board, still: bool) -> bool
     still & (sent(k, b) == 0)
 }
 
-// Bit k on the wire: 0 if any board still in sends 0.
-fn wire_bit(k: u64, boards: [Board; 32], still: [bool; 32]) -> u64
-    requires { ⌜ k < 64 ⌝ }
-    ensures small { λ r. ⌜ r < 2 ⌝ }
-    ensures { λ r. ⌜ r ≡ wireBit k boards still ⌝ }
-{
-    let mut i: usize = 0;
-    while i < 32 {
-        if sends_zero(k, boards[i], still[i]) {
-            return 0;
-        }
-        i += 1;
-    }
-    1
-}
-
 // Whether a board stays in: one that sent 1 and sees 0 leaves the round.
 fn keeps_in(k: u64, seen: u64, b: Board, still: bool) -> bool
     requires { ⌜ k < 64 ⌝ }
     ensures { λ r. ⌜ r ≡ keepsIn k seen b still ⌝ }
 {
     still & (sent(k, b) <= seen)
-}
-
-// Who is still in after bit k.
-fn stay_in(k: u64, seen: u64, boards: [Board; 32], still: [bool; 32]) -> [bool; 32]
-    requires { ⌜ k < 64 ⌝ }
-    ensures { λ r. ⌜ r ≡ stayIn k seen boards still ⌝ }
-{
-    let mut kept = still;
-    let mut i: usize = 0;
-    while i < 32 {
-        kept[i] = keeps_in(k, seen, boards[i], kept[i]);
-        i += 1;
-    }
-    kept
 }
 
 // The 64 bits of a round, highest first: all boards that are in send at once, and those that lose leave.
@@ -114,9 +84,24 @@ pub fn listen(boards: [Board; 32], still: [bool; 32]) -> Heard
     let mut k: u64 = 64;
     while 0 < k {
         k -= 1;
-        let seen = wire_bit(k, boards, kept);
-        let next = stay_in(k, seen, boards, kept);
-        kept = next;
+        // bit k on the wire: 0 if any board still in sends 0
+        let mut seen: u64 = 1;
+        let mut i: usize = 0;
+        while i < 32 {
+            if sends_zero(k, boards[i], kept[i]) {
+                seen = 0;
+                break;
+            }
+            i += 1;
+        }
+        // one that sent 1 and sees 0 leaves the round; nobody leaves at a 1
+        if seen == 0 {
+            let mut j: usize = 0;
+            while j < 32 {
+                kept[j] = keeps_in(k, seen, boards[j], kept[j]);
+                j += 1;
+            }
+        }
         heard = heard * 2 + seen;
     }
     Heard {
