@@ -1,5 +1,9 @@
 // What a table has left to give: a place, a free address, a ticket; and which address an identity is offered.
+ghost use Prim.Native.Nat.{ℕ, _<_};
 ghost use mathlib.Core.Path.{_≡_};
+ghost use mathlib.Core.Bool.{false};
+ghost use lib.ListN.{getD};
+ghost use Rattle.rows.specs.Rows.{holdsAddress};
 ghost use Rattle.free.specs.Free.{isFree, lowestFree, addressFor, noFreeAddress, canAssign};
 ghost use Rattle.free.specs.Free.{full as Free·full};
 use rows::Row;
@@ -19,14 +23,35 @@ pub fn is_free(f: Facts, rows: [Row; 32], address: u8) -> bool
     }
 }
 
-// The lowest free address, 0 if none.
+// Which addresses the rows hold: a mark for each.
+fn held(rows: [Row; 32]) -> [bool; 128]
+    ensures { λ r. ⌜ ((a : ℕ) → a < 128 → getD r a false ≡ holdsAddress a rows) ⌝ }
+{
+    let mut marks = [false; 128];
+    let mut i: usize = 0;
+    while i < 32 {
+        let here = rows[i];
+        if (here.address != 0) & (here.address < 128) {
+            let at = here.address as usize;
+            marks[at] = true;
+        }
+        i += 1;
+    }
+    marks
+}
+
+// The lowest free address, 0 if none: the rows are asked once, for all addresses.
 fn lowest_free(f: Facts, rows: [Row; 32]) -> u8
     ensures { λ r. ⌜ r ≡ lowestFree f rows ⌝ }
 {
+    let marks = held(rows);
     let mut address: u8 = 0;
     while address < 128 {
-        if is_free(f, rows, address) {
-            return address;
+        if slots::is_open(f, address) {
+            let at = address as usize;
+            if !marks[at] {
+                return address;
+            }
         }
         address += 1;
     }
@@ -64,5 +89,11 @@ pub fn no_free_address(f: Facts, rows: [Row; 32]) -> bool
 pub fn can_assign(f: Facts, rows: [Row; 32]) -> bool
     ensures { λ r. ⌜ r ≡ canAssign f rows ⌝ }
 {
-    !full(rows) & !no_free_address(f, rows) & !(f.last == HIGHEST_TICKET)
+    if full(rows) {
+        return false;
+    }
+    if f.last == HIGHEST_TICKET {
+        return false;
+    }
+    !no_free_address(f, rows)
 }
