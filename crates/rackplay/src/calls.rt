@@ -1,15 +1,17 @@
 // The calls, each from its bytes to its line.
 use crate::given;
 use crate::hand_made;
-use crate::line;
-use crate::seen;
 use lent::Owned;
 use lent::Report;
 use lines::cells::BLANK_CELL;
 use lines::numbers::at_most;
 use machine::Machine;
 use machine::Stepped;
+use reader::Answer;
 use readings::Reading;
+use tells::line;
+use tells::seen;
+use writer::Written;
 
 // The machine that a call leaves, and how long its line is so far.
 pub struct Played {
@@ -179,12 +181,17 @@ fn read_on(cells: &[u16], call: &[u8], offers: &mut [u8], out: &mut [u8]) -> usi
     let n = at_most(given::large_count(call, 3), cells.len());
     let k = at_most(given::lent(call), offers.len());
     let said = reader::read(&cells[0..n], &mut offers[0..k]);
+    let at = what_it_says(out, said);
+    line::bytes(out, at, &offers[0..k])
+}
+
+// What the reader says of a record.
+fn what_it_says(out: &mut [u8], said: Answer) -> usize {
     let reading = said.reading;
     let at = line::number(out, 0, b"refused ", said.refusal as u64);
     let at = line::number(out, at, b" place ", said.place as u64);
     let at = command(out, at, reading);
-    let at = headers(out, at, reading);
-    line::bytes(out, at, &offers[0..k])
+    headers(out, at, reading)
 }
 
 // What a record is about.
@@ -218,8 +225,13 @@ fn write_on(call: &[u8], cells: &mut [u16], out: &mut [u8]) -> usize {
     let n = at_most(given::lent(call), cells.len());
     let offers = &call[at_most(12, call.len())..];
     let done = writer::write(reading, offers, &mut cells[0..n]);
+    let at = what_it_did(out, done);
+    line::cells(out, at, &cells[0..n])
+}
+
+// What the writer says.
+fn what_it_did(out: &mut [u8], done: Written) -> usize {
     let at = line::number(out, 0, b"refused ", done.refusal as u64);
     let at = line::number(out, at, b" place ", done.place as u64);
-    let at = line::number(out, at, b" wrote ", done.count as u64);
-    line::cells(out, at, &cells[0..n])
+    line::number(out, at, b" wrote ", done.count as u64)
 }

@@ -8,9 +8,7 @@ ghost use lib.ListN.{length};
 mod calls;
 mod given;
 mod hand_made;
-mod line;
 mod script;
-mod seen;
 
 // One byte more than is played of a script, so that what is longer can be told from what is not.
 const ROOM: usize = 262145;

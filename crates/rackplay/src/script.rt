@@ -1,9 +1,10 @@
 // The script, call by call.
 use crate::calls;
 use crate::given;
-use crate::line;
 use libc::STDOUT_FILENO;
+use lines::numbers::at_most;
 use machine::Machine;
+use tells::line;
 
 // How much is played of a script: a call that does not end within it is a bad one.
 const MOST_BYTES: usize = 262144;
@@ -35,7 +36,8 @@ pub fn play(script: &[u8]) {
 // Plays one call, prints its line, and hands back the machine that it leaves.
 fn play_call(machine: Machine, call: &[u8], out: &mut [u8]) -> Machine {
     let played = calls::play(machine, call, out);
-    let used = line::end(out, played.used);
+    let at = line::word(out, played.used, b"\n");
+    let used = at_most(at, out.len());
     io::write_all(STDOUT_FILENO, &out[0..used]);
     played.machine
 }

@@ -1,10 +1,10 @@
--- `rackplay::seen::rows` is safe, and ends after 32 places; the line keeps its length.
+-- `tells::seen::rows` is safe, and ends after 32 places; the line keeps its length.
 use Prim.Native.Nat.{_-_, _≤_}
 use mathlib.Core.Path.{_≡_}
 use lib.ListN.{length}
 use borrow.Author.Needs.{needs}
-use Rattle.rackplay.proofs.seen.rows.Statement.{statement}
-use Rattle.rackplay.proofs.seen.rows.Tie as tie
+use Rattle.tells.proofs.seen.rows.Statement.{statement}
+use Rattle.tells.proofs.seen.rows.Tie as tie
 
 abbrev Inv-loop : tie.InvT-loop
 Inv-loop out₀ from rows at₀ i₀ t8 out at i = (i ≤ 32) × (length out ≡ length out₀)

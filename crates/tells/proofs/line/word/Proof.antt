@@ -1,25 +1,25 @@
--- `rackplay::line::hex` is safe, and ends with the last byte; the line keeps its length.
+-- `tells::line::word` is safe, and ends with the last character; the line keeps its length.
 use Prim.Native.Nat.{_-_}
 use mathlib.Core.Path.{_≡_}
 use lib.ListN.{length}
 use borrow.Author.Needs.{needs}
-use Rattle.rackplay.proofs.line.hex.Statement.{statement}
-use Rattle.rackplay.proofs.line.hex.Tie as tie
+use Rattle.tells.proofs.line.word.Statement.{statement}
+use Rattle.tells.proofs.line.word.Tie as tie
 
 abbrev Inv-loop : tie.InvT-loop
-Inv-loop out₀ from bytes at₀ i₀ out at i = length out ≡ length out₀
+Inv-loop out₀ from characters at₀ i₀ out at i = length out ≡ length out₀
 
 abbrev μ-loop : tie.MeasureT-loop
-μ-loop out₀ from bytes at₀ i₀ out at i = length bytes - i
+μ-loop out₀ from characters at₀ i₀ out at i = length characters - i
 
 loop-holds : tie.Need-loop-holds Inv-loop μ-loop
 loop-holds c = search needs
 
-shared-slice-read-hex-byte : tie.Need-shared-slice-read-hex-byte Inv-loop μ-loop
-shared-slice-read-hex-byte c = search needs
+shared-slice-read-put : tie.Need-shared-slice-read-put Inv-loop μ-loop
+shared-slice-read-put c = search needs
 
-hex-byte-requires : tie.Need-hex-byte-requires Inv-loop μ-loop
-hex-byte-requires c κs = search needs
+put-requires : tie.Need-put-requires Inv-loop μ-loop
+put-requires c κs = search needs
 
 add-i : tie.Need-add-i Inv-loop μ-loop
 add-i c = search needs
@@ -36,15 +36,15 @@ same-length c = search needs
 returns : tie.Need-returns Inv-loop μ-loop
 returns c = search needs
 
-pub hex-spec : {M : Type 1} → statement M
-hex-spec =
+pub word-spec : {M : Type 1} → statement M
+word-spec =
     tie.close
     (tie.spec
     Inv-loop
     μ-loop
     loop-holds
-    shared-slice-read-hex-byte
-    hex-byte-requires
+    shared-slice-read-put
+    put-requires
     add-i
     loop-less
     loop-again

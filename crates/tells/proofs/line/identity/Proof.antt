@@ -1,10 +1,10 @@
--- `rackplay::line::identity` is safe, and ends with the sixteenth digit; the line keeps its length.
+-- `tells::line::identity` is safe, and ends with the sixteenth digit; the line keeps its length.
 use Prim.Native.Nat.{_-_, _≤_}
 use mathlib.Core.Path.{_≡_}
 use lib.ListN.{length}
 use borrow.Author.Needs.{needs}
-use Rattle.rackplay.proofs.line.identity.Statement.{statement}
-use Rattle.rackplay.proofs.line.identity.Tie as tie
+use Rattle.tells.proofs.line.identity.Statement.{statement}
+use Rattle.tells.proofs.line.identity.Tie as tie
 
 abbrev Inv-loop : tie.InvT-loop
 Inv-loop out₀ from n at₀ i₀ out at i = (i ≤ 16) × (length out ≡ length out₀)

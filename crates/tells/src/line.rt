@@ -2,7 +2,6 @@
 ghost use Prim.Native.Nat.{_≤_};
 ghost use lib.ListN.{length};
 use lines::cells::BLANK_CELL;
-use lines::numbers::at_most;
 
 // What every byte is before a call.
 pub const BLANK_BYTE: u8 = 255;
@@ -130,12 +129,4 @@ fn bytes_told(lent: &[u8]) -> usize
         i -= 1;
     }
     0
-}
-
-// The end of the line; says how long it is.
-pub fn end(out: &mut [u8], from: usize) -> usize
-    ensures { λ r. ⌜ r ≤ length (now (out .exit)) ⌝ }
-{
-    let at = put(out, from, b'\n');
-    at_most(at, out.len())
 }

@@ -1,10 +1,10 @@
--- `rackplay::line::cells` is safe, and ends with the last cell that is told; the line keeps its length.
+-- `tells::line::cells` is safe, and ends with the last cell that is told; the line keeps its length.
 use Prim.Native.Nat.{_-_}
 use mathlib.Core.Path.{_≡_}
 use lib.ListN.{length}
 use borrow.Author.Needs.{needs}
-use Rattle.rackplay.proofs.line.cells.Statement.{statement}
-use Rattle.rackplay.proofs.line.cells.Tie as tie
+use Rattle.tells.proofs.line.cells.Statement.{statement}
+use Rattle.tells.proofs.line.cells.Tie as tie
 
 abbrev Inv-loop : tie.InvT-loop
 Inv-loop out₀ from lent at₀ many i₀ t8 out at i = length out ≡ length out₀

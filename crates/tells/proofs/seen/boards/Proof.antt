@@ -1,10 +1,10 @@
--- `rackplay::seen::boards` is safe, and ends after 40 places; the line keeps its length.
+-- `tells::seen::boards` is safe, and ends after 40 places; the line keeps its length.
 use Prim.Native.Nat.{_-_, _≤_}
 use mathlib.Core.Path.{_≡_}
 use lib.ListN.{length}
 use borrow.Author.Needs.{needs}
-use Rattle.rackplay.proofs.seen.boards.Statement.{statement}
-use Rattle.rackplay.proofs.seen.boards.Tie as tie
+use Rattle.tells.proofs.seen.boards.Statement.{statement}
+use Rattle.tells.proofs.seen.boards.Tie as tie
 
 abbrev Inv-loop : tie.InvT-loop
 Inv-loop out₀ from count boards at₀ i₀ out at i = (i ≤ 40) × (length out ≡ length out₀)

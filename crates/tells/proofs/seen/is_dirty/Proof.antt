@@ -1,8 +1,8 @@
--- `rackplay::seen::is_dirty` is safe, and ends after 32 places.
+-- `tells::seen::is_dirty` is safe, and ends after 32 places.
 use Prim.Native.Nat.{_-_, _≤_}
 use borrow.Author.Needs.{needs}
-use Rattle.rackplay.proofs.seen.is_dirty.Statement.{statement}
-use Rattle.rackplay.proofs.seen.is_dirty.Tie as tie
+use Rattle.tells.proofs.seen.is_dirty.Statement.{statement}
+use Rattle.tells.proofs.seen.is_dirty.Tie as tie
 
 abbrev Inv-loop : tie.InvT-loop
 Inv-loop rows i₀ i = i ≤ 32
