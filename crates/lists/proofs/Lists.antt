@@ -1,4 +1,4 @@
--- For each definition over a list the three laws that a loop's proof cites: what it is of the elements from place i on, where the one at i
+-- For each definition over a list the laws that a loop's proof cites: what it is of the elements from place i on, where the one at i
 -- decides (-here), where it leaves it to the others (-next), and past the end (-end).
 use Prim.Native.Nat.{ℕ, zero, suc, _+_, _<_, _≤_}
 use mathlib.Core.Path.{_≡_, refl}
@@ -58,13 +58,9 @@ module _ {A : Type 0} where
       pub find-next : p (getD l i d) ≡ false → find p (drop i l) ≡ suc (find p (drop (i + 1) l))
       find-next e = rw (drop-step l i d b, e)
 
-  module _ (r : A → A → Bool) (l : List A) (i : ℕ) where
-    pub pairwise-end : length l ≤ i → pairwise r (drop i l) ≡ true
-    pairwise-end h = rw (drop-of-length-le l h)
+  module _ (r : A → A → Bool) (l : List A) (i : ℕ) (d : A) (b : i < length l) where
+    pub pairwise-here : all (r (getD l i d)) (drop (i + 1) l) ≡ false → pairwise r (drop i l) ≡ false
+    pairwise-here e = rw (drop-step l i d b, e)
 
-    module _ (d : A) (b : i < length l) where
-      pub pairwise-here : all (r (getD l i d)) (drop (i + 1) l) ≡ false → pairwise r (drop i l) ≡ false
-      pairwise-here e = rw (drop-step l i d b, e)
-
-      pub pairwise-next : all (r (getD l i d)) (drop (i + 1) l) ≡ true → pairwise r (drop i l) ≡ pairwise r (drop (i + 1) l)
-      pairwise-next e = rw (drop-step l i d b, e)
+    pub pairwise-next : all (r (getD l i d)) (drop (i + 1) l) ≡ true → pairwise r (drop i l) ≡ pairwise r (drop (i + 1) l)
+    pairwise-next e = rw (drop-step l i d b, e)

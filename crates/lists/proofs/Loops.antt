@@ -13,7 +13,7 @@ use lib.Seq.{getD-take}
 use borrow.Author.Tests.{ltb-true, ltb-false}
 use Rattle.lists.specs.Lists.{any, all, pairwise, count, find}
 use Rattle.lists.proofs.Bools.{both}
-use Rattle.lists.proofs.Lists.{any-here, any-next, any-end, all-here, all-next, all-end, count-here, count-next, count-end, find-here, find-next, find-end, pairwise-here, pairwise-next, pairwise-end}
+use Rattle.lists.proofs.Lists.{any-here, any-next, any-end, all-here, all-next, all-end, count-here, count-next, count-end, find-here, find-next, find-end, pairwise-here, pairwise-next}
 
 module _ {A : Type 0} where
   -- no element before i passed: any p l is any p of what is left
@@ -112,9 +112,6 @@ module _ {A : Type 0} where
 
     pub pairs-found : Pairs r l d n i → i < n → all (r (getD l i d)) (drop (i + 1) l) ≡ false → false ≡ pairwise r l
     pairs-found v b e = sym (v .same ∙ pairwise-here r l i d (omega arith) e)
-
-    pub pairs-ended : Pairs r l d n i → n ≤ i → true ≡ pairwise r l
-    pairs-ended v b = sym (v .same ∙ pairwise-end r l i (omega arith))
 
 -- ---- a loop over all n places that looks only at the first k
 

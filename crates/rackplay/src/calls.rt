@@ -25,7 +25,7 @@ pub fn first_machine() -> Machine {
     machine::start(0, &none, 0).machine
 }
 
-// Plays a call, by its letter.
+// Plays a call, by its letter. Those that write cells of a step come last.
 pub fn play(machine: Machine, call: &[u8], out: &mut [u8]) -> Played {
     match given::byte(call, 0) {
         b's' => stepped(out, start(call), &[]),
@@ -72,15 +72,14 @@ fn step_on(machine: Machine, call: &[u8], cells: &mut [u16], out: &mut [u8]) -> 
     stepped(out, done, &cells[0..n])
 }
 
-// The call of the letter.
+// The call of the letter. It is `j` if it is none of the others: `call_length` lets no other letter through.
 fn step_by_letter(machine: Machine, call: &[u8], cells: &mut [u16]) -> Stepped {
-    let first = given::byte(call, 3);
     match given::byte(call, 0) {
         b'b' => begin(machine, call, cells),
         b'a' => machine.answer(given::mark(call, 3), cells),
         b'i' => machine.identity(&call[at_most(4, call.len())..], cells),
         b'g' => machine.give_up(cells),
-        _ => machine.join(first, cells),
+        _ => machine.join(given::byte(call, 3), cells),
     }
 }
 

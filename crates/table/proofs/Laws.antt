@@ -1,16 +1,18 @@
 -- Laws of the table: the ways of a ticket's refusal, of a row by itself, and of a row and another; and what stands behind an unused place.
-use Prim.Native.Nat.{ℕ, _+_, _≤_, _<_}
+use Prim.Native.Nat.{ℕ, suc, _+_, _-_, _≤_, _<_}
 use mathlib.Core.Path.{_≡_, refl, sym, _∙_}
-use mathlib.Core.Bool.{Bool, true, false, not, _&&_, _||_, or-false}
+use mathlib.Core.Bool.{Bool, true, false, cond, not, _&&_, _||_, or-false}
 use mathlib.Core.List.{List, [], _∷_}
 use lib.Dec.{eqb, ltb}
+use native.Mathlib.Omega.{arith}
 use lib.ListN.{length, getD, drop}
-use borrow.Author.Tests.{lt-ltb, le-ltb, eq-eqb, ne-eqb}
-use Rattle.lists.specs.Lists.{all, pairwise}
+use lib.Seq.{drop-drop}
+use borrow.Author.Tests.{lt-ltb, le-ltb, eq-eqb, ne-eqb, not-true}
+use Rattle.lists.specs.Lists.{all, pairwise, find}
 use Rattle.lists.specs.Numbers.{within}
 use Rattle.lists.proofs.Bools.{both, and}
-use Rattle.lists.proofs.Keeps.{any-find, all-mono}
-use Rattle.lists.proofs.Loops.{Pairs, pairs-turn}
+use Rattle.lists.proofs.Keeps.{any-find, all-mono, all-drop}
+use Rattle.lists.proofs.Loops.{All, Pairs, pairs-turn}
 use Rattle.slots.specs.Slots.{isOpen}
 use Rattle.slots.specs.declared.Facts.{Facts}
 use Rattle.rows.specs.Rows.{inUse, hasTicket, holdsTicket, placeOfTicket}
@@ -83,26 +85,64 @@ module _ (x y : Row) where
       pub higher : x .address < y .address → (o : Bool) → o ≡ distinct x y → o ≡ inOrder x y
       higher h o e = rw (ne-eqb _ _ u, ne-eqb _ _ v, lt-ltb _ _ h) e
 
--- ---- the rows behind an unused place
+-- ---- the rows up to the first unused place, and the places behind it
+
+-- a place that holds no row
+abbrev pub unused : Row → Bool
+unused r = not (inUse r)
+
+-- a place is unused where its address is 0, and only there
+module _ (r : Row) where
+  pub unused-here : r .address ≡ 0 → unused r ≡ true
+  unused-here u = rw (eq-eqb _ _ u)
+
+  pub used-here : (r .address ≡ 0 → ⊥) → unused r ≡ false
+  used-here u = rw (ne-eqb _ _ u)
 
 -- what may stand behind an unused place is unused
-only-unused : (x y : Row) → inUse x ≡ false → inOrder x y ≡ true → not (inUse y) ≡ true
-only-unused x y u h = rw (u, or-false) at h
+only-unused : (x y : Row) → unused x ≡ true → inOrder x y ≡ true → unused y ≡ true
+only-unused x y u h = rw (not-true (inUse x) u, or-false) at h
 
--- unused places are in order
-unused-in-order : (l : List Row) → all (λ y. not (inUse y)) l ≡ true → pairwise inOrder l ≡ true
+-- so where all places are in order, there is no row behind the first unused one
+unused-behind-first : (l : List Row) → pairwise inOrder l ≡ true → all unused (drop (find unused l) l) ≡ true
+unused-behind-first [] h = refl
+unused-behind-first (x ∷ xs) h =
+    let t = both (all (inOrder x) xs) (pairwise inOrder xs) h in go (unused-behind-first xs (t .1)) (t .0) (unused x) refl
+  where
+    go : all unused (drop (find unused xs) xs) ≡ true → all (inOrder x) xs ≡ true → (b : Bool) → unused x ≡ b
+        → all unused (drop (cond b 0 (suc (find unused xs))) (x ∷ xs)) ≡ true
+    go ih h true u = and u (all-mono (inOrder x) unused (λ y k. only-unused x y u k) xs h)
+    go ih h false u = ih
+
+-- and where there is one, not all places are in order
+pub row-behind-unused : (l : List Row) (n : ℕ) → n ≡ find unused l → all unused (drop n l) ≡ false → false ≡ pairwise inOrder l
+row-behind-unused l n e h = go (pairwise inOrder l) refl
+  where
+    go : (b : Bool) → pairwise inOrder l ≡ b → false ≡ b
+    go true w = sym h ∙ rw e (unused-behind-first l w)
+    go false w = refl
+
+-- unused places may stand behind any, and are in order
+unused-behind-any : (x : Row) (l : List Row) → all unused l ≡ true → all (inOrder x) l ≡ true
+unused-behind-any x l h = all-mono unused (inOrder x) (λ y k. rw k) l h
+
+unused-in-order : (l : List Row) → all unused l ≡ true → pairwise inOrder l ≡ true
 unused-in-order [] h = refl
 unused-in-order (x ∷ xs) h =
-    let t = both (not (inUse x)) (all (λ y. not (inUse y)) xs) h in
-    and (all-mono (λ y. not (inUse y)) (inOrder x) (λ y k. rw k) xs (t .1)) (unused-in-order xs (t .1))
+    let t = both (unused x) (all unused xs) h in and (unused-behind-any x xs (t .1)) (unused-in-order xs (t .1))
 
--- so what may stand behind an unused place is in order
-in-order-behind-unused : (x : Row) (l : List Row) → inUse x ≡ false → all (inOrder x) l ≡ true → pairwise inOrder l ≡ true
-in-order-behind-unused x l u h = unused-in-order l (all-mono (inOrder x) (λ y. not (inUse y)) (λ y k. only-unused x y u k) l h)
+-- with those from n on unused, so are those from any later place on
+left-unused : (l : List Row) (n i : ℕ) → n ≤ i → all unused (drop n l) ≡ true → all unused (drop i l) ≡ true
+left-unused l n i b h =
+    let e : n + (i - n) ≡ i = omega arith in
+    rw (← e, ← drop-drop (i - n) n l) (all-drop unused (i - n) (drop n l) h)
 
--- and so is the whole once an unused place is met, where each place up to it may have what is behind it
-pub in-order-from-unused : {l : List Row} {d : Row} {n i : ℕ} → Pairs inOrder l d n i → i < n → getD l i d .address ≡ 0
-    → all (inOrder (getD l i d)) (drop (i + 1) l) ≡ true → true ≡ pairwise inOrder l
-in-order-from-unused {l} {d} {n} {i} v b u h =
-    let unused : inUse (getD l i d) ≡ false = rw (eq-eqb _ _ u) in
-    sym (pairs-turn v b h .same ∙ in-order-behind-unused (getD l i d) (drop (i + 1) l) unused h)
+-- so each of the two loops is done where only unused places are left
+module _ {l : List Row} {d : Row} {m n i : ℕ} where
+  pub pairs-turn-unused : {j : ℕ} → Pairs inOrder l d m i → i < m
+      → All (inOrder (getD l i d)) l d (all (inOrder (getD l i d)) (drop (i + 1) l)) m j → n ≤ j
+      → all unused (drop n l) ≡ true → Pairs inOrder l d m (i + 1)
+  pairs-turn-unused {j} v b w c h = pairs-turn v b (w .same ∙ unused-behind-any (getD l i d) (drop j l) (left-unused l n j c h))
+
+  pub pairs-ended-unused : Pairs inOrder l d m i → n ≤ i → all unused (drop n l) ≡ true → true ≡ pairwise inOrder l
+  pairs-ended-unused v b h = sym (v .same ∙ unused-in-order (drop i l) (left-unused l n i b h))

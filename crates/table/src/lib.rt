@@ -1,6 +1,10 @@
 // The table: bus facts and rows together, its tickets, and whether it keeps the rules.
+ghost use Prim.Native.Nat.{_≤_};
 ghost use mathlib.Core.Path.{_≡_};
-ghost use Rattle.lists.specs.Lists.{all, pairwise};
+ghost use mathlib.Core.Bool.{not};
+ghost use lib.ListN.{drop};
+ghost use Rattle.lists.specs.Lists.{all, pairwise, find};
+ghost use Rattle.rows.specs.Rows.{inUse};
 ghost use Rattle.table.specs.Tickets.{ticketRefusal};
 ghost use Rattle.table.specs.Sound.{staticAllowed, usedRight, rowRight, inOrder, sound};
 ghost use Rattle.table.specs.Sound.{distinct as Sound·distinct};
@@ -105,23 +109,56 @@ fn rows_right(f: Facts, rows: [Row; 32]) -> bool
     true
 }
 
-// Whether any two places are in order. It is done with the first unused one: what may stand behind that is unused, and so in order.
-fn rows_in_order(rows: [Row; 32]) -> bool
-    ensures { λ r. ⌜ r ≡ pairwise inOrder rows ⌝ }
+// The first unused place, 32 if there is none.
+fn first_unused(rows: [Row; 32]) -> usize
+    ensures small { λ r. ⌜ r ≤ 32 ⌝ }
+    ensures { λ r. ⌜ r ≡ find (λ y. not (inUse y)) rows ⌝ }
 {
     let mut i: usize = 0;
     while i < 32 {
+        let here = rows[i];
+        if here.address == 0 {
+            return i;
+        }
+        i += 1;
+    }
+    32
+}
+
+// Whether every place from n on is unused.
+fn unused_from(rows: [Row; 32], n: usize) -> bool
+    requires { ⌜ n ≤ 32 ⌝ }
+    ensures { λ r. ⌜ r ≡ all (λ y. not (inUse y)) (drop n rows) ⌝ }
+{
+    let mut i = n;
+    while i < 32 {
+        let here = rows[i];
+        if here.address != 0 {
+            return false;
+        }
+        i += 1;
+    }
+    true
+}
+
+// Whether any two places are in order: behind the first unused place only unused ones, and the rows before it each with each.
+fn rows_in_order(rows: [Row; 32]) -> bool
+    ensures { λ r. ⌜ r ≡ pairwise inOrder rows ⌝ }
+{
+    let n = first_unused(rows);
+    if !unused_from(rows, n) {
+        return false;
+    }
+    let mut i: usize = 0;
+    while i < n {
         let x = rows[i];
         let mut j = i + 1;
-        while j < 32 {
+        while j < n {
             let y = rows[j];
             if !in_order(x, y) {
                 return false;
             }
             j += 1;
-        }
-        if x.address == 0 {
-            return true;
         }
         i += 1;
     }

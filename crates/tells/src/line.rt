@@ -89,7 +89,7 @@ pub fn cells(out: &mut [u8], from: usize, lent: &[u16]) -> usize {
     at
 }
 
-// A cell as a number.
+// A cell as a number: in a function, so that a cell read from the list needs no proof that it fits.
 fn wide(cell: u16) -> u64 {
     cell as u64
 }
