@@ -1,18 +1,19 @@
 -- The loops of this crate, one turn at a time: over the boards and their flags side by side, and over the bits of a round.
 use mathlib.Core.Path.{_≡_, refl, sym, _∙_}
 use mathlib.Core.Bool.{Bool, true, false, cond, _&&_, and-true}
-use mathlib.Core.List.{List, [], _∷_, _++_, zipWith}
+use mathlib.Core.List.{List, [], _∷_, _++_, map, zipWith}
 use Prim.Native.Nat.{ℕ, zero, suc, _+_, _-_, _*_, _^_, _<_, _≤_}
 use native.Mathlib.Nat.{not-suc-le-zero, pow-suc, le-of-suc-le-suc, suc-inj}
 use native.Mathlib.Omega.{arith}
-use borrow.Author.Tests.{lt-ltb, le-ltb, le-leb}
-use lib.Dec.{ltb, leb·suc-suc}
-use lib.ListN.{length, take, getD, replicate, length-append, length-take, length-map, length-replicate, length-set, getD-replicate, set}
+use borrow.Author.Tests.{lt-ltb, le-ltb, le-leb, lt-leb, ne-eqb}
+use lib.Dec.{eqb, ltb, leb, leb·suc-suc}
+use lib.ListN.{length, take, getD, replicate, set, getD-replicate, List·getD-map}
+use lib.ListN.{length-append, length-take, length-map, length-replicate, length-set}
 use lib.Pow.{pow-mono}
 use Rattle.lists.proofs.Loops.{Any, any-start, any-turn, any-found, any-ended}
 use Rattle.lists.proofs.Zips.{zip-at, zip-long, zipping, zip-turn, zip-done}
 use Rattle.boards.specs.declared.Board.{Board}
-use Rattle.boards.specs.Wire.{waits, waiting, waitingFirst, anyone, sent, wireBit, sendsZero, keepsIn, stayIn, hear}
+use Rattle.boards.specs.Wire.{waits, waiting, waitingFirst, anyone, boardOf, sent, wireBit, sendsZero, keepsIn, stayIn, hear}
 
 -- ---- who answers
 
@@ -41,30 +42,36 @@ waiting-at n bs i d f e h = sym (rw e at (flag-at n bs i d f (rw e h)))
 -- ---- one bit
 
 -- no board below i sends 0 as bit k
-pub record NoZero (k : ℕ) (bs : List Board) (fs : List Bool) (n i : ℕ) : Type 0 where
-  pub boards : length bs ≡ n
+pub record NoZero (k : ℕ) (ids : List ℕ) (fs : List Bool) (n i : ℕ) : Type 0 where
+  pub numbers : length ids ≡ n
   pub flags : length fs ≡ n
-  pub below : Any (λ f. f) (zipWith (sendsZero k) bs fs) false n i
+  pub below : Any (λ f. f) (zipWith (sendsZero k) (map boardOf ids) fs) false n i
 
-module _ {k : ℕ} {bs : List Board} {fs : List Bool} {n : ℕ} where
+module _ {k : ℕ} {ids : List ℕ} {fs : List Bool} {n : ℕ} where
   -- before the first
-  pub zero-start : length bs ≡ n → length fs ≡ n → NoZero k bs fs n 0
-  zero-start p q = record { boards = p; flags = q; below = any-start (zip-long (sendsZero k) bs fs (p ∙ sym q) ∙ q) }
+  pub zero-start : length ids ≡ n → length fs ≡ n → NoZero k ids fs n 0
+  zero-start p q =
+      let long = zip-long (sendsZero k) (map boardOf ids) fs (length-map ids boardOf ∙ p ∙ sym q) ∙ q in
+      record { numbers = p; flags = q; below = any-start long }
 
-module _ {k : ℕ} {bs : List Board} {fs : List Bool} {n i : ℕ} (v : NoZero k bs fs n i) where
+module _ {k : ℕ} {ids : List ℕ} {fs : List Bool} {n i : ℕ} (v : NoZero k ids fs n i) where
+  -- the board at i, by its number and its flag
+  zero-at : i < n → (d : ℕ) (f : Bool)
+      → getD (zipWith (sendsZero k) (map boardOf ids) fs) i false ≡ sendsZero k (boardOf (getD ids i d)) (getD fs i f)
+  zero-at h d f =
+      zip-at (sendsZero k) (map boardOf ids) fs i (boardOf d) f false (rw (length-map ids boardOf, v .numbers) h) (omega arith)
+      ∙ rw (List·getD-map boardOf ids i d)
+
   -- the next does not
-  pub zero-turn : i < n → (d : Board) (f : Bool) → sendsZero k (getD bs i d) (getD fs i f) ≡ false → NoZero k bs fs n (i + 1)
-  zero-turn h d f e =
-      let next = zip-at (sendsZero k) bs fs i d f false (omega arith) (omega arith) ∙ e in
-      record { boards = v .boards; flags = v .flags; below = any-turn (v .below) h next }
+  pub zero-turn : i < n → (d : ℕ) (f : Bool) → sendsZero k (boardOf (getD ids i d)) (getD fs i f) ≡ false → NoZero k ids fs n (i + 1)
+  zero-turn h d f e = record { numbers = v .numbers; flags = v .flags; below = any-turn (v .below) h (zero-at h d f ∙ e) }
 
   -- the next does: the bit is 0
-  pub zero-found : i < n → (d : Board) (f : Bool) → sendsZero k (getD bs i d) (getD fs i f) ≡ true → 0 ≡ wireBit k bs fs
-  zero-found h d f e =
-      rw (← any-found (v .below) h (zip-at (sendsZero k) bs fs i d f false (omega arith) (omega arith) ∙ e))
+  pub zero-found : i < n → (d : ℕ) (f : Bool) → sendsZero k (boardOf (getD ids i d)) (getD fs i f) ≡ true → 0 ≡ wireBit k (map boardOf ids) fs
+  zero-found h d f e = rw (← any-found (v .below) h (zero-at h d f ∙ e))
 
   -- none does: it is 1
-  pub zero-ended : n ≤ i → 1 ≡ wireBit k bs fs
+  pub zero-ended : n ≤ i → 1 ≡ wireBit k (map boardOf ids) fs
   zero-ended h = rw (← any-ended (v .below) h)
 
 -- a bit is 0 or 1
@@ -77,28 +84,41 @@ bit-small k bs fs = go (anyone (zipWith (sendsZero k) bs fs))
 
 -- ---- who stays in
 
--- the flags below j are settled, and those from j on are as they came
-pub record Settled (k seen : ℕ) (bs : List Board) (fs kept : List Bool) (n j : ℕ) : Type 0 where
-  pub boards : length bs ≡ n
+-- at a 0: the flags below i are settled, and those from i on are as they came
+pub record Settled (k : ℕ) (ids : List ℕ) (fs kept : List Bool) (n i : ℕ) : Type 0 where
+  pub numbers : length ids ≡ n
   pub flags : length kept ≡ n
-  pub same : zipping (keepsIn k seen) bs kept j ≡ stayIn k seen bs fs
+  pub same : zipping (keepsIn k 0) (map boardOf ids) kept i ≡ stayIn k 0 (map boardOf ids) fs
 
-module _ {k seen : ℕ} {bs : List Board} {fs : List Bool} {n : ℕ} where
+module _ {k : ℕ} {ids : List ℕ} {fs : List Bool} {n : ℕ} where
   -- before the first
-  pub settled-start : length bs ≡ n → length fs ≡ n → Settled k seen bs fs fs n 0
-  settled-start p q = record { boards = p; flags = q; same = refl }
+  pub settled-start : length ids ≡ n → length fs ≡ n → Settled k ids fs fs n 0
+  settled-start p q = record { numbers = p; flags = q; same = refl }
 
-module _ {k seen : ℕ} {bs : List Board} {fs kept : List Bool} {n j : ℕ} (v : Settled k seen bs fs kept n j) where
+-- at a 0 those stay in that send 0
+zero-stays : (n : ℕ) → eqb n 0 ≡ leb n 0
+zero-stays zero = refl
+zero-stays (suc n) = ne-eqb (suc n) 0 (λ e. omega arith) ∙ sym (lt-leb (suc n) 0 (omega arith))
+
+module _ {k : ℕ} {ids : List ℕ} {fs kept : List Bool} {n i : ℕ} (v : Settled k ids fs kept n i) where
+  -- as many boards as places
+  settled-boards : length (map boardOf ids) ≡ n
+  settled-boards = length-map ids boardOf ∙ v .numbers
+
   -- the next is settled
-  pub settled-turn : j < n → (d : Board) (f now : Bool) → now ≡ keepsIn k seen (getD bs j d) (getD kept j f)
-      → Settled k seen bs fs (set kept j now) n (j + 1)
-  settled-turn h d f now e =
-      let turn = zip-turn (keepsIn k seen) bs kept j d f (omega arith) (omega arith) in
-      record { boards = v .boards; flags = length-set kept j now ∙ v .flags; same = rw e (turn ∙ v .same) }
+  pub settled-turn : i < n → (d : ℕ) (f : Bool) → let now = sendsZero k (boardOf (getD ids i d)) (getD kept i f) in
+      Settled k ids fs (set kept i now) n (i + 1)
+  settled-turn h d f =
+      let turn = zip-turn (keepsIn k 0) (map boardOf ids) kept i (boardOf d) f (rw settled-boards h) (omega arith) in
+      record {
+        numbers = v .numbers;
+        flags = length-set kept i _ ∙ v .flags;
+        same = rw (zero-stays (sent k (boardOf (getD ids i d)))) (rw (List·getD-map boardOf ids i d) at turn ∙ v .same);
+      }
 
   -- all are
-  pub settled-ended : n ≤ j → kept ≡ stayIn k seen bs fs
-  settled-ended h = sym (zip-done (keepsIn k seen) bs kept j (omega arith) (omega arith)) ∙ v .same
+  pub settled-ended : n ≤ i → kept ≡ stayIn k 0 (map boardOf ids) fs
+  settled-ended h = sym (zip-done (keepsIn k 0) (map boardOf ids) kept i (rw settled-boards h) (omega arith)) ∙ v .same
 
 -- at a 1 nobody leaves
 none-leaves : (k : ℕ) (bs : List Board) (fs : List Bool) → length bs ≡ length fs → stayIn k 1 bs fs ≡ fs
@@ -107,13 +127,6 @@ none-leaves k [] [] e = refl
 none-leaves k [] (f ∷ fs) e = absurd (omega arith)
 none-leaves k (b ∷ bs) [] e = refl
 none-leaves k (b ∷ bs) (f ∷ fs) e = rw (le-leb (sent k b) 1 (omega arith), and-true f, none-leaves k bs fs (suc-inj e))
-
--- so all stay at a bit that is not 0
-pub all-stay : (k seen : ℕ) (bs : List Board) (fs : List Bool) → length bs ≡ length fs → seen ≡ wireBit k bs fs → (seen ≡ 0 → ⊥)
-    → fs ≡ stayIn k seen bs fs
-all-stay k seen bs fs e bit h =
-    let one : seen ≡ 1 = omega (arith, bit, bit-small k bs fs, h) in
-    rw one (sym (none-leaves k bs fs e))
 
 -- ---- a round
 
@@ -138,36 +151,65 @@ hear-room n k h w p q r s =
     (one, omega (arith, pow-mono {i = n - (k - 1)} {j = n} (omega arith)))
 
 -- with k of n bits to come: what was heard and who is in lead to what the whole round hears
-pub record Hearing (n : ℕ) (bs : List Board) (fs kept : List Bool) (heard k : ℕ) : Type 0 where
+pub record Hearing (n : ℕ) (ids : List ℕ) (fs kept : List Bool) (heard k : ℕ) : Type 0 where
   pub inside : k ≤ n
-  pub flags : length kept ≡ length bs
+  pub flags : length kept ≡ length ids
   pub small : heard < 2 ^ (n - k)
-  pub same : hear k bs kept heard ≡ hear n bs fs 0
+  pub same : hear k (map boardOf ids) kept heard ≡ hear n (map boardOf ids) fs 0
 
-module _ {n : ℕ} {bs : List Board} {fs : List Bool} where
+module _ {n : ℕ} {ids : List ℕ} {fs : List Bool} where
   -- before the first bit
-  pub hearing-start : length fs ≡ length bs → Hearing n bs fs fs 0 n
+  pub hearing-start : length fs ≡ length ids → Hearing n ids fs fs 0 n
   hearing-start e =
       let none : n - n ≡ 0 = omega arith in
       record { inside = omega arith; flags = e; small = rw none (omega arith); same = refl }
 
-module _ {n : ℕ} {bs : List Board} {fs kept : List Bool} {heard k : ℕ} (v : Hearing n bs fs kept heard k) where
+module _ {n : ℕ} {ids : List ℕ} {fs kept : List Bool} {heard k : ℕ} (v : Hearing n ids fs kept heard k) where
+  -- a flag for each board
+  hearing-flags : length (map boardOf ids) ≡ length kept
+  hearing-flags = length-map ids boardOf ∙ sym (v .flags)
+
+  -- all stay in at a bit that is not 0
+  pub hearing-stay : (seen : ℕ) → seen ≡ wireBit (k - 1) (map boardOf ids) kept → (seen ≡ 0 → ⊥) → kept ≡ stayIn (k - 1) seen (map boardOf ids) kept
+  hearing-stay seen bit h =
+      let one : seen ≡ 1 = omega (arith, bit, bit-small (k - 1) (map boardOf ids) kept, h) in
+      rw one (sym (none-leaves (k - 1) (map boardOf ids) kept hearing-flags))
+
   -- there is room for one bit more
-  pub hearing-room : 0 < k → (seen : ℕ) → seen ≡ wireBit (k - 1) bs kept
+  pub hearing-room : 0 < k → (seen : ℕ) → seen ≡ wireBit (k - 1) (map boardOf ids) kept
       → (heard * 2 + seen < 2 ^ (n - (k - 1))) × (heard * 2 + seen < 2 ^ n)
-  hearing-room p seen bit = hear-room n k heard seen p (v .inside) (v .small) (rw bit (bit-small (k - 1) bs kept))
+  hearing-room p seen bit = hear-room n k heard seen p (v .inside) (v .small) (rw bit (bit-small (k - 1) (map boardOf ids) kept))
 
   -- one bit
-  pub hearing-turn : 0 < k → (seen : ℕ) → seen ≡ wireBit (k - 1) bs kept → (next : List Bool) → next ≡ stayIn (k - 1) seen bs kept
-      → Hearing n bs fs next (heard * 2 + seen) (k - 1)
+  pub hearing-turn : 0 < k → (seen : ℕ) → seen ≡ wireBit (k - 1) (map boardOf ids) kept
+      → (next : List Bool) → next ≡ stayIn (k - 1) seen (map boardOf ids) kept → Hearing n ids fs next (heard * 2 + seen) (k - 1)
   hearing-turn p seen bit next stay =
       record {
         inside = omega arith;
-        flags = rw stay (zip-long (keepsIn (k - 1) seen) bs kept (sym (v .flags)) ∙ v .flags);
+        flags = rw stay (zip-long (keepsIn (k - 1) seen) (map boardOf ids) kept hearing-flags ∙ v .flags);
         small = hearing-room p seen bit .0;
-        same = rw (stay, bit) (sym (hear-turn k bs kept heard p) ∙ v .same);
+        same = rw (stay, bit) (sym (hear-turn k (map boardOf ids) kept heard p) ∙ v .same);
       }
 
   -- after the last
-  pub hearing-ended : k ≤ 0 → record { identity = heard; still = kept } ≡ hear n bs fs 0
-  hearing-ended p = sym (hear-end k bs kept heard p) ∙ v .same
+  pub hearing-ended : k ≤ 0 → record { identity = heard; still = kept } ≡ hear n (map boardOf ids) fs 0
+  hearing-ended p = sym (hear-end k (map boardOf ids) kept heard p) ∙ v .same
+
+-- ---- a round asks for identities alone
+
+-- a flag that is made of a board's identity and its flag
+zip-identities : (g : Board → Bool → Bool) → ((b : Board) (f : Bool) → g (boardOf (b .identity)) f ≡ g b f) → (bs : List Board) (fs : List Bool)
+    → zipWith g (map boardOf (map (λ b. b .identity) bs)) fs ≡ zipWith g bs fs
+unfolding zipWith
+zip-identities g e [] fs = refl
+zip-identities g e (b ∷ bs) [] = refl
+zip-identities g e (b ∷ bs) (f ∷ fs) = rw (e b f, zip-identities g e bs fs)
+
+-- so the round of the numbers is the round of the boards
+pub hear-identities : (k : ℕ) (bs : List Board) (fs : List Bool) (h : ℕ) → hear k (map boardOf (map (λ b. b .identity) bs)) fs h ≡ hear k bs fs h
+unfolding hear
+hear-identities zero bs fs h = refl
+hear-identities (suc k) bs fs h =
+    let seen = wireBit k bs fs in
+    rw (zip-identities (sendsZero k) (λ b f. refl) bs fs, zip-identities (keepsIn k seen) (λ b f. refl) bs fs)
+    (hear-identities k bs (stayIn k seen bs fs) (h * 2 + seen))

@@ -45,6 +45,10 @@ keepsIn k seen b still = still && leb (sent k b) seen
 abbrev pub stayIn : ℕ → ℕ → List Board → List Bool → List Bool
 stayIn k seen bs fs = zipWith (keepsIn k seen) bs fs
 
+-- a board by its identity alone: no bit asks for its address
+abbrev pub boardOf : ℕ → Board
+boardOf id = record { identity = id; address = 0 }
+
 -- k bits to come, behind what was heard so far: what is heard in the end, and who is still in then
 unfoldable pub hear : ℕ → List Board → List Bool → ℕ → Heard
 hear zero bs fs heard = record { identity = heard; still = fs }

@@ -7,8 +7,9 @@
 //     let after = boards::offer(boards, heard.still, byte);
 ghost use mathlib.Core.Path.{_≡_};
 ghost use Prim.Native.Nat.{_<_};
-ghost use Rattle.boards.specs.Wire.{sendsZero, keepsIn, hear, takes, afterByte, waitingFirst};
-ghost use Rattle.boards.specs.Wire.{anyone as Wire·anyone, sent as Wire·sent};
+ghost use mathlib.Core.List.{map};
+ghost use lib.ListN.{length};
+ghost use Rattle.boards.specs.Wire.{boardOf, wireBit, stayIn, hear, takes, afterByte, waitingFirst, anyone as Wire·anyone};
 
 // A board: its identity (48-bit Provisioned ID, BCR, DCR, highest bit first), and its address, 0 for none.
 pub struct Board {
@@ -50,57 +51,60 @@ pub fn anyone(still: [bool; 32]) -> bool
     false
 }
 
-// What a board sends as its bit k.
-fn sent(k: u64, b: Board) -> u64
-    requires { ⌜ k < 64 ⌝ }
-    ensures small { λ r. ⌜ r < 2 ⌝ }
-    ensures { λ r. ⌜ r ≡ Wire·sent k b ⌝ }
+// The identities of the boards.
+fn identities(boards: [Board; 32]) -> [u64; 32]
+    ensures { λ r. ⌜ r ≡ map (λ b. b .identity) boards ⌝ }
 {
-    (b.identity >> k) % 2
+    let mut sent = [0u64; 32];
+    let mut i: usize = 0;
+    while i < 32 {
+        let b = boards[i];
+        sent[i] = b.identity;
+        i += 1;
+    }
+    sent
 }
 
-// Whether a board is still in, and sends 0 as its bit k.
-fn sends_zero(k: u64, b: Board, still: bool) -> bool
-    requires { ⌜ k < 64 ⌝ }
-    ensures { λ r. ⌜ r ≡ sendsZero k b still ⌝ }
+// Bit k on the wire: 0 if any board still in sends 0. The lengths are the types' own, but behind a reference the proof has to be told.
+fn wire_bit(k: u64, sent: &[u64; 32], still: &[bool; 32]) -> u64
+    requires { ⌜ (k < 64) × (length (now sent) ≡ 32) × (length (now still) ≡ 32) ⌝ }
+    ensures { λ r. ⌜ r ≡ wireBit k (map boardOf (now (sent .entry))) (now (still .entry)) ⌝ }
 {
-    still & (sent(k, b) == 0)
+    let mut i: usize = 0;
+    while i < 32 {
+        if still[i] & ((sent[i] >> k) % 2 == 0) {
+            return 0;
+        }
+        i += 1;
+    }
+    1
 }
 
-// Whether a board stays in: one that sent 1 and sees 0 leaves the round.
-fn keeps_in(k: u64, seen: u64, b: Board, still: bool) -> bool
-    requires { ⌜ k < 64 ⌝ }
-    ensures { λ r. ⌜ r ≡ keepsIn k seen b still ⌝ }
+// At a 0 those that sent 1 leave.
+fn stay_in(k: u64, sent: &[u64; 32], kept: &mut [bool; 32])
+    requires { ⌜ (k < 64) × (length (now sent) ≡ 32) × (length (now kept) ≡ 32) ⌝ }
+    ensures { λ _. ⌜ now (kept .exit) ≡ stayIn k 0 (map boardOf (now (sent .entry))) (now (kept .entry)) ⌝ }
 {
-    still & (sent(k, b) <= seen)
+    let mut i: usize = 0;
+    while i < 32 {
+        kept[i] = kept[i] & ((sent[i] >> k) % 2 == 0);
+        i += 1;
+    }
 }
 
 // The 64 bits of a round, highest first: all boards that are in send at once, and those that lose leave.
 pub fn listen(boards: [Board; 32], still: [bool; 32]) -> Heard
     ensures { λ r. ⌜ r ≡ hear 64 boards still 0 ⌝ }
 {
+    let sent = identities(boards);
     let mut kept = still;
     let mut heard: u64 = 0;
     let mut k: u64 = 64;
     while 0 < k {
         k -= 1;
-        // bit k on the wire: 0 if any board still in sends 0
-        let mut seen: u64 = 1;
-        let mut i: usize = 0;
-        while i < 32 {
-            if sends_zero(k, boards[i], kept[i]) {
-                seen = 0;
-                break;
-            }
-            i += 1;
-        }
-        // one that sent 1 and sees 0 leaves the round; nobody leaves at a 1
+        let seen = wire_bit(k, &sent, &kept);
         if seen == 0 {
-            let mut j: usize = 0;
-            while j < 32 {
-                kept[j] = keeps_in(k, seen, boards[j], kept[j]);
-                j += 1;
-            }
+            stay_in(k, &sent, &mut kept);
         }
         heard = heard * 2 + seen;
     }
