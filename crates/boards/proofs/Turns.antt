@@ -1,15 +1,16 @@
 -- The loops of this crate, one turn at a time: over the boards and their flags side by side, and over the bits of a round.
 use mathlib.Core.Path.{_≡_, refl, sym, _∙_}
-use mathlib.Core.Bool.{Bool, true, false, cond, _&&_, and-true}
+use mathlib.Core.Bool.{Bool, true, false, cond, _&&_, and-true, and-false}
 use mathlib.Core.List.{List, [], _∷_, _++_, map, zipWith}
 use Prim.Native.Nat.{ℕ, zero, suc, _+_, _-_, _*_, _^_, _<_, _≤_}
 use native.Mathlib.Nat.{not-suc-le-zero, pow-suc, le-of-suc-le-suc, suc-inj}
 use native.Mathlib.Omega.{arith}
-use borrow.Author.Tests.{lt-ltb, le-ltb, le-leb, lt-leb, ne-eqb}
-use lib.Dec.{eqb, ltb, leb, leb·suc-suc}
+use borrow.Author.Tests.{lt-ltb, le-ltb, le-leb}
+use lib.Dec.{ltb, leb·suc-suc}
 use lib.ListN.{length, take, getD, replicate, set, getD-replicate, List·getD-map}
 use lib.ListN.{length-append, length-take, length-map, length-replicate, length-set}
 use lib.Pow.{pow-mono}
+use Rattle.lists.proofs.Edits.{Filled, filled-start, filled-turn, filled-whole}
 use Rattle.lists.proofs.Loops.{Any, any-start, any-turn, any-found, any-ended}
 use Rattle.lists.proofs.Zips.{zip-at, zip-long, zipping, zip-turn, zip-done}
 use Rattle.boards.specs.declared.Board.{Board}
@@ -38,6 +39,29 @@ flag-at (suc n) (b ∷ bs) (suc i) d f h =
 pub waiting-at : (n : ℕ) (bs : List Board) (i : ℕ) (d : Board) (f : Bool) → length bs ≡ 32 → i < 32
     → (ltb i n && waits (getD bs i d)) ≡ getD (waitingFirst n bs) i f
 waiting-at n bs i d f e h = sym (rw e at (flag-at n bs i d f (rw e h)))
+
+-- ---- identities
+
+-- the numbers below i are the boards' identities
+pub record Identified (bs : List Board) (d : Board) (ids : List ℕ) (n i : ℕ) : Type 0 where
+  pub boards : length bs ≡ n
+  pub filled : Filled (map (λ b. b .identity) bs) ids n i
+
+module _ {bs : List Board} {d : Board} {ids : List ℕ} {n : ℕ} where
+  -- before the first
+  pub identified-start : length bs ≡ n → length ids ≡ n → Identified bs d ids n 0
+  identified-start p q = record { boards = p; filled = filled-start q (rw (length-map bs (λ b. b .identity)) (omega arith)) }
+
+module _ {bs : List Board} {d : Board} {ids : List ℕ} {n i : ℕ} where
+  -- one number
+  pub identified-turn : {id : ℕ} → Identified bs d ids n i → i < n → id ≡ getD bs i d .identity → Identified bs d (set ids i id) n (i + 1)
+  identified-turn {id} v h e =
+      let next = e ∙ sym (List·getD-map (λ (b : Board). b .identity) bs i d) in
+      record { boards = v .boards; filled = filled-turn (v .filled) h id (d .identity) next }
+
+  -- after the last
+  pub identified-ended : Identified bs d ids n i → n ≤ i → ids ≡ map (λ b. b .identity) bs
+  identified-ended v h = filled-whole (v .filled) h (length-map bs (λ b. b .identity) ∙ v .boards)
 
 -- ---- one bit
 
@@ -95,10 +119,11 @@ module _ {k : ℕ} {ids : List ℕ} {fs : List Bool} {n : ℕ} where
   pub settled-start : length ids ≡ n → length fs ≡ n → Settled k ids fs fs n 0
   settled-start p q = record { numbers = p; flags = q; same = refl }
 
--- at a 0 those stay in that send 0
-zero-stays : (n : ℕ) → eqb n 0 ≡ leb n 0
-zero-stays zero = refl
-zero-stays (suc n) = ne-eqb (suc n) 0 (λ e. omega arith) ∙ sym (lt-leb (suc n) 0 (omega arith))
+-- a flag that is put where it stands
+set-here : (fs : List Bool) (i : ℕ) (f : Bool) → set fs i (getD fs i f) ≡ fs
+set-here [] i f = refl
+set-here (g ∷ fs) zero f = refl
+set-here (g ∷ fs) (suc i) f = rw (set-here fs i f)
 
 module _ {k : ℕ} {ids : List ℕ} {fs kept : List Bool} {n i : ℕ} (v : Settled k ids fs kept n i) where
   -- as many boards as places
@@ -106,15 +131,25 @@ module _ {k : ℕ} {ids : List ℕ} {fs kept : List Bool} {n i : ℕ} (v : Settl
   settled-boards = length-map ids boardOf ∙ v .numbers
 
   -- the next is settled
-  pub settled-turn : i < n → (d : ℕ) (f : Bool) → let now = sendsZero k (boardOf (getD ids i d)) (getD kept i f) in
-      Settled k ids fs (set kept i now) n (i + 1)
-  settled-turn h d f =
+  settled-turn : i < n → (d : ℕ) (f now : Bool) → now ≡ keepsIn k 0 (boardOf (getD ids i d)) (getD kept i f)
+      → Settled k ids fs (set kept i now) n (i + 1)
+  settled-turn h d f now e =
       let turn = zip-turn (keepsIn k 0) (map boardOf ids) kept i (boardOf d) f (rw settled-boards h) (omega arith) in
       record {
         numbers = v .numbers;
-        flags = length-set kept i _ ∙ v .flags;
-        same = rw (zero-stays (sent k (boardOf (getD ids i d)))) (rw (List·getD-map boardOf ids i d) at turn ∙ v .same);
+        flags = length-set kept i now ∙ v .flags;
+        same = rw e (rw (List·getD-map boardOf ids i d) at turn ∙ v .same);
       }
+
+  -- one that sent 1 leaves
+  pub settled-leaves : i < n → (d : ℕ) → sent k (boardOf (getD ids i d)) ≡ 1 → Settled k ids fs (set kept i false) n (i + 1)
+  settled-leaves h d e = settled-turn h d false false (rw e (sym (and-false (getD kept i false))))
+
+  -- one that sent 0 stays as it was
+  pub settled-stays : i < n → (d : ℕ) → (sent k (boardOf (getD ids i d)) ≡ 1 → ⊥) → Settled k ids fs kept n (i + 1)
+  settled-stays h d e =
+      let none : sent k (boardOf (getD ids i d)) ≡ 0 = omega (arith, e) in
+      rw (set-here kept i false) at (settled-turn h d false (getD kept i false) (rw none (sym (and-true (getD kept i false)))))
 
   -- all are
   pub settled-ended : n ≤ i → kept ≡ stayIn k 0 (map boardOf ids) fs

@@ -87,7 +87,9 @@ fn stay_in(k: u64, sent: &[u64; 32], kept: &mut [bool; 32])
 {
     let mut i: usize = 0;
     while i < 32 {
-        kept[i] = kept[i] & ((sent[i] >> k) % 2 == 0);
+        if (sent[i] >> k) % 2 == 1 {
+            kept[i] = false;
+        }
         i += 1;
     }
 }

@@ -1,22 +1,19 @@
 -- `boards::identities` meets its contract: the numbers below i are those of the boards.
 use Prim.Native.Nat.{_-_}
-use mathlib.Core.Path.{sym}
-use mathlib.Core.List.{map}
 use native.Mathlib.Omega.{arith}
-use lib.ListN.{length-map, List·getD-map}
-use Rattle.lists.proofs.Edits.{Filled, filled-start, filled-turn, filled-whole}
-use Rattle.boards.specs.declared.Board.{Board}
+use Rattle.boards.specs.Wire.{boardOf}
+use Rattle.boards.proofs.Turns.{Identified, identified-start, identified-turn, identified-ended}
 use Rattle.boards.proofs.identities.Statement.{statement}
 use Rattle.boards.proofs.identities.Tie as tie
 
 abbrev Inv-loop : tie.InvT-loop
-Inv-loop boards sent₀ i₀ sent i = Filled (map (λ (b : Board). b .identity) boards) sent 32 i
+Inv-loop boards sent₀ i₀ sent i = Identified boards (boardOf 0) sent 32 i
 
 abbrev μ-loop : tie.MeasureT-loop
 μ-loop boards sent₀ i₀ sent i = 32 - i
 
 loop-holds : tie.Need-loop-holds Inv-loop μ-loop
-loop-holds c = filled-start (omega arith) (omega (arith, length-map (c .args .t1) (λ (b : Board). b .identity)))
+loop-holds c = identified-start (omega arith) (omega arith)
 
 mul-b : tie.Need-mul-b Inv-loop μ-loop
 mul-b c = omega arith
@@ -37,14 +34,10 @@ loop-less : tie.Need-loop-less Inv-loop μ-loop
 loop-less c = omega arith
 
 loop-again : tie.Need-loop-again Inv-loop μ-loop
-loop-again c =
-    let l = c .before .before .loop in
-    filled-turn (l .inv) (omega arith) _ _ (sym (List·getD-map (λ (b : Board). b .identity) (c .before .before .before .args .t1) (l .i) _))
+loop-again c = search identified-turn
 
 returns : tie.Need-returns Inv-loop μ-loop
-returns c =
-    let long = length-map (c .before .before .args .t1) (λ (b : Board). b .identity) in
-    filled-whole (c .before .loop .inv) (c .loop-test .left) (omega arith)
+returns c = search identified-ended
 
 pub identities-spec : {M : Type 1} → statement M
 identities-spec =
