@@ -1,8 +1,10 @@
-// The rows changed: one more, one less, one renewed, one moved.
+// The rows changed: one more, one less, one renewed, one moved, all gone.
 //
 // Nothing here judges the rows: every function takes any 32 of them.
 ghost use mathlib.Core.Path.{_≡_};
+ghost use lib.ListN.{replicate};
 ghost use Rattle.lists.specs.Lists.{find};
+ghost use Rattle.rows.specs.Rows.{noRow};
 ghost use Rattle.changes.specs.Changes.{comesBehind, withRow};
 ghost use Rattle.changes.specs.Changes.{without as Changes·without, renewed as Changes·renewed, moved as Changes·moved};
 use rows::NO_ROW;
@@ -60,6 +62,20 @@ pub fn without(rows: [Row; 32], place: usize) -> [Row; 32]
         i += 1;
     }
     out[31] = NO_ROW;
+    out
+}
+
+// No rows: each of these goes, the last one first.
+pub fn emptied(rows: [Row; 32]) -> [Row; 32]
+    ensures { λ r. ⌜ r ≡ replicate 32 noRow ⌝ }
+{
+    let mut out = rows;
+    let mut i: usize = 32;
+    while 0 < i {
+        i -= 1;
+        let fewer = without(out, i);
+        out = fewer;
+    }
     out
 }
 

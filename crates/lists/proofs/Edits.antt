@@ -6,8 +6,8 @@ use mathlib.Core.Bool.{Bool, true, false, cond}
 use mathlib.Core.List.{List, [], _∷_, _++_}
 use native.Mathlib.Omega.{arith}
 use native.Mathlib.Numerals.{add-one}
-use lib.ListN.{List·getD-append, length, getD, drop, take, set, length-append, length-take, length-drop, length-set}
-use lib.Seq.{set-at, append-snoc, take-suc, take-suc-set, take-all, take-at, getD-at, getD-append-add, getD-drop, drop-cons}
+use lib.ListN.{List·getD-append, length, getD, drop, take, set, replicate, length-append, length-take, length-drop, length-set}
+use lib.Seq.{set-at, append-snoc, take-suc, take-suc-set, take-all, take-at, getD-at, getD-append-add, getD-drop, drop-cons, drop-length}
 use Rattle.lists.specs.Lists.{find, insertBy, removeAt}
 
 module _ {A : Type 0} where
@@ -211,3 +211,47 @@ module _ {A : Type 0} where
 
     pub copy-ended : Copied s d l n i → n ≤ i → l ≡ take n s ++ drop n d
     copy-ended v b = let e : i ≡ n = omega (arith, v .inside) in rw (← e) (v .same)
+
+  -- a loop that takes out all of n elements, the last first: from place i on there is only z
+  pub record Gone (z : A) (out : List A) (n i : ℕ) : Type 0 where
+    pub len : length out ≡ n
+    pub inside : i ≤ n
+    pub none : drop i out ≡ replicate (n - i) z
+
+  replicate-behind : (n : ℕ) (z : A) → replicate n z ++ (z ∷ []) ≡ z ∷ replicate n z
+  replicate-behind zero z = refl
+  replicate-behind (suc n) z = ap (z ∷_) (replicate-behind n z)
+
+  one-gone : (z : A) (l : List A) (k n : ℕ) → k < length l → drop (suc k) l ≡ replicate n z → drop k (removeAt k z l) ≡ z ∷ replicate n z
+  one-gone z [] k n h e = absurd (omega arith)
+  one-gone z (y ∷ ys) zero n h e = ap (_++ (z ∷ [])) e ∙ replicate-behind n z
+  one-gone z (y ∷ ys) (suc k) n h e = one-gone z ys k n (omega arith) e
+
+  module _ {z : A} {out : List A} {n : ℕ} where
+    pub gone-start : length out ≡ n → Gone z out n n
+    gone-start e =
+        let left : n - n ≡ 0 = omega arith in
+        record { len = e; inside = omega arith; none = rw left (ap (λ (k : ℕ). drop k out) (sym e) ∙ drop-length out) }
+
+    turned : (i : ℕ) → Gone z out n i → 0 < i → Gone z (removeAt (i - 1) z out) n (i - 1)
+    turned zero g h = absurd (omega arith)
+    turned (suc k) g h =
+        let before : suc k - 1 ≡ k = omega arith in
+        let more : n - k ≡ suc (n - suc k) = omega (arith, g .inside) in
+        rw before
+        (record {
+          len = length-remove k z out (omega (arith, g .len, g .inside)) ∙ g .len;
+          inside = omega (arith, g .inside);
+          none = rw more (one-gone z out k (n - suc k) (omega (arith, g .len, g .inside)) (g .none));
+        })
+
+    ended : (i : ℕ) → Gone z out n i → i ≤ 0 → out ≡ replicate n z
+    ended zero g h = let whole : n - 0 ≡ n = omega arith in rw whole at (g .none)
+    ended (suc k) g h = absurd (omega arith)
+
+  module _ {z : A} {out : List A} {n i : ℕ} where
+    pub gone-turn : Gone z out n i → 0 < i → Gone z (removeAt (i - 1) z out) n (i - 1)
+    gone-turn g h = turned i g h
+
+    pub gone-ended : Gone z out n i → i ≤ 0 → out ≡ replicate n z
+    gone-ended g h = ended i g h

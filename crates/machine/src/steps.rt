@@ -180,7 +180,7 @@ fn commanded(m: Machine) -> Did
             did::three(next, answered, parity::ASSIGN, onward_cell(on))
         }
         1 => {
-            let next = moments::idle(f, moments::no_rows());
+            let next = moments::idle(f, changes::emptied(rows));
             did::three(next, answered, parity::RESET_ALL, parity::STOP)
         }
         2 => on_to_direct(m, parity::SET_FROM_STATIC),

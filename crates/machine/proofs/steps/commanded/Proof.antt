@@ -23,8 +23,8 @@ onward-cell-requires c κs = search needs
 three-requires : tie.Need-three-requires
 three-requires c κs = search needs
 
-no-rows-requires : tie.Need-no-rows-requires
-no-rows-requires c κs = search needs
+emptied-requires : tie.Need-emptied-requires
+emptied-requires c κs = search needs
 
 idle-requires : tie.Need-idle-requires
 idle-requires c κs = search needs
@@ -57,7 +57,7 @@ returns c =
 
 returns-2 : tie.Need-returns-2
 unfolding Steps·commanded oddBit parity onesIn
-returns-2 c = rw (c .before .before .before .match .keys2, c .three2 .ensures, c .before .idle .ensures, c .before .before .no-rows .ensures)
+returns-2 c = rw (c .before .before .before .match .keys2, c .three2 .ensures, c .before .idle .ensures, c .before .before .emptied .ensures)
 
 returns-3 : tie.Need-returns-3
 unfolding Steps·commanded oddBit parity onesIn
@@ -104,7 +104,7 @@ commanded-spec =
     onward-machine-requires
     onward-cell-requires
     three-requires
-    no-rows-requires
+    emptied-requires
     idle-requires
     three-requires-2
     on-to-direct-requires
