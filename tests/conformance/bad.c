@@ -1,4 +1,6 @@
 /* bad.c: scripts that are none: unknown letters, calls that break off, numbers that make it no call. */
+#include <stdio.h>
+#include <stdlib.h>
 #include <string.h>
 
 #include "chance.h"
@@ -44,7 +46,7 @@ static const struct spoiled spoiled[] = {
     { 'b', 1, 1025, 2 }, { 'b', 1, 65535, 2 }, { 'a', 1, 1025, 2 }, { 'i', 1, 1025, 2 }, { 'g', 1, 1025, 2 },
     { 'j', 1, 1025, 2 }, { 'n', 1, 1025, 2 }, { 'd', 1, 1025, 2 }, { 'w', 1, 1025, 2 }, { 'n', 6, 41, 1 },
     { 'n', 6, 255, 1 }, { 'm', 22, 6, 1 }, { 'm', 22, 255, 1 }, { 'w', 3, 3, 1 }, { 'w', 3, 255, 1 },
-    { 'w', 4, 7, 1 }, { 'w', 4, 255, 1 }, { 'd', 3, 1101, 2 }, { 'd', 3, 65535, 2 }, { 'w', 10, 65535, 2 },
+    { 'w', 4, 7, 1 }, { 'w', 4, 255, 1 }, { 'd', 3, 1101, 2 }, { 'd', 3, 65535, 2 },
     /* Just within: these are calls, and what follows them is not judged as part of them. */
     { 'b', 1, 1024, 2 }, { 'n', 6, 0, 1 }, { 'm', 22, 5, 1 }, { 'w', 3, 2, 1 }, { 'w', 4, 6, 1 },
     { 'd', 3, 0, 2 },
@@ -52,17 +54,35 @@ static const struct spoiled spoiled[] = {
 
 enum { SPOILED = sizeof spoiled / sizeof spoiled[0], LETTERS = 13, CUTS = 4, STRANGERS = 8, LONG = 5 };
 
-static void make_spoiled(struct script *script, const struct spoiled *how)
+/* Which script of this family has which number. */
+enum {
+    EMPTY,
+    EVERY_LETTER, /* before any s or m */
+    FIRST_SPOILED,
+    FIRST_CUT = FIRST_SPOILED + SPOILED,
+    LONG_BUFFER = FIRST_CUT + LETTERS * CUTS, /* a cut too: a buffer that is longer than what follows */
+    FIRST_STRANGER,
+    FIRST_LONG = FIRST_STRANGER + STRANGERS,
+    BAD_SCRIPTS = FIRST_LONG + LONG
+};
+
+/* A spoiled call, and so many bytes behind it. */
+static void make_spoiled(struct script *script, const struct spoiled *how, size_t behind)
 {
     const size_t at = script->length;
     put_good(script, how->letter);
     for (size_t byte = 0; byte < how->bytes; byte++) {
         script->bytes[at + how->place + byte] = (uint8_t)(how->number >> (8 * (how->bytes - 1 - byte)));
     }
-    /* So many bytes behind that it is the number that makes it no call, and not the end of the script. */
-    for (size_t more = 0; more < 3000; more++) {
+    for (; behind > 0; behind--) {
         put(script, 'g', 1);
     }
+}
+
+/* How many bytes follow a call of the list: all that it asks for, so that it is none by its number alone. */
+static size_t enough_behind(const struct spoiled *how)
+{
+    return 3000 + 2 * (size_t)how->number;
 }
 
 /* A call that breaks off: behind its letter, one byte before its end, in the middle, anywhere. */
@@ -85,12 +105,23 @@ static void make_stranger(struct script *script, size_t which)
     }
 }
 
+/* Adds a script's bytes behind so many others, and hands back how many there are then. */
+static size_t append(uint8_t *bytes, size_t room, size_t length, const struct script *script)
+{
+    if (script->length > room - length) {
+        fputs("generate: a bad script outgrows its room\n", stderr);
+        exit(2);
+    }
+    memcpy(bytes + length, script->bytes, script->length);
+    return length + script->length;
+}
+
 /*
  * Scripts of about the longest length: the last call ends with the last byte taken, one byte before it, one
  * behind it; and the last call begins there, or two bytes before. The script is made of calls of writing with
  * a long buffer.
  */
-static size_t make_longest(uint8_t *bytes, size_t which)
+static size_t make_longest(uint8_t *bytes, size_t room, size_t which)
 {
     static struct script call;
     static const struct model_reading reading = { 0, 2, 0, 0, false, false, 0 };
@@ -105,21 +136,43 @@ static size_t make_longest(uint8_t *bytes, size_t which)
         const size_t body = left > 65535 + 2 * empty ? 65535 : left > 65535 + empty ? 30000 : left - empty;
         call.length = 0;
         put_write(&call, LENT_MOST, &reading, buffer, (uint16_t)body);
-        memcpy(bytes + length, call.bytes, call.length);
-        length += call.length;
+        length = append(bytes, room, length, &call);
     }
     if (which >= 3) {
         call.length = 0;
         put_give_up(&call, 8);
-        memcpy(bytes + length, call.bytes, call.length);
-        length += call.length;
+        length = append(bytes, room, length, &call);
     }
     return length;
 }
 
 size_t bad_scripts(void)
 {
-    return 2 + SPOILED + LETTERS * CUTS + STRANGERS + LONG;
+    return BAD_SCRIPTS;
+}
+
+/* The script of a number that is not of the longest. */
+static void make_short(struct script *script, size_t number)
+{
+    static const struct spoiled long_buffer = { 'w', 10, 65535, 2 };
+    if (number > EVERY_LETTER && chance(60)) {
+        put_good(script, chance(50) ? 's' : 'm');
+        put_good(script, "baigjrqtndw"[below(11)]);
+    }
+    if (number == EVERY_LETTER) {
+        for (size_t place = 0; place < 11; place++) {
+            put_good(script, "qbaigjrtndw"[place]);
+        }
+    } else if (number >= FIRST_STRANGER) {
+        make_stranger(script, number - FIRST_STRANGER);
+    } else if (number == LONG_BUFFER) {
+        make_spoiled(script, &long_buffer, 3000);
+    } else if (number >= FIRST_CUT) {
+        make_cut(script, "sbaigjrqtmndw"[(number - FIRST_CUT) / CUTS], (number - FIRST_CUT) % CUTS);
+    } else if (number >= FIRST_SPOILED) {
+        const struct spoiled *how = &spoiled[number - FIRST_SPOILED];
+        make_spoiled(script, how, enough_behind(how));
+    }
 }
 
 size_t make_bad(uint8_t *bytes, size_t room, size_t number)
@@ -127,26 +180,9 @@ size_t make_bad(uint8_t *bytes, size_t room, size_t number)
     static struct script script;
     script.length = 0;
     new_identities();
-    if (number >= 2 + SPOILED + LETTERS * CUTS + STRANGERS) {
-        return make_longest(bytes, number - (2 + SPOILED + LETTERS * CUTS + STRANGERS));
+    if (number >= FIRST_LONG) {
+        return make_longest(bytes, room, number - FIRST_LONG);
     }
-    /* Number 0 is the empty script; number 1 has every letter before any s or m. */
-    if (number > 1 && chance(60)) {
-        put_good(&script, chance(50) ? 's' : 'm');
-        put_good(&script, "baigjrqtndw"[below(11)]);
-    }
-    if (number == 1) {
-        for (size_t place = 0; place < 11; place++) {
-            put_good(&script, "qbaigjrtndw"[place]);
-        }
-    } else if (number >= 2 && number < 2 + SPOILED) {
-        make_spoiled(&script, &spoiled[number - 2]);
-    } else if (number >= 2 + SPOILED && number < 2 + SPOILED + LETTERS * CUTS) {
-        const size_t cut = number - 2 - SPOILED;
-        make_cut(&script, "sbaigjrqtmndw"[cut / CUTS], cut % CUTS);
-    } else if (number >= 2 + SPOILED + LETTERS * CUTS) {
-        make_stranger(&script, number - (2 + SPOILED + LETTERS * CUTS));
-    }
-    memcpy(bytes, script.bytes, script.length < room ? script.length : room);
-    return script.length;
+    make_short(&script, number);
+    return append(bytes, room, 0, &script);
 }

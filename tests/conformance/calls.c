@@ -5,7 +5,9 @@
 #include <stdlib.h>
 #include <string.h>
 
-enum { SCRIPT_MOST = 262144, LENT_MOST = 1024, CELLS_MOST = 1100, BOARDS_MOST = 40, MACHINE = 516 };
+#include "script.h"
+
+enum { MACHINE = 516 }; /* bytes of a call m */
 
 static void fail(const char *path)
 {

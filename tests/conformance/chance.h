@@ -3,6 +3,10 @@
  *
  * There is one stream of numbers. It is set anew for each script and each sheet, from the seed, the family
  * and the number within the family, so that each can be made again by itself.
+ *
+ * What is made of them is the same on every machine too, as long as no two draws stand where C leaves the
+ * order of evaluation open: in the arguments of one call, the entries of one list, the operands of one
+ * operator. One of them then has a statement of its own.
  */
 #ifndef CHANCE_H
 #define CHANCE_H

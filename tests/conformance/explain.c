@@ -2,6 +2,7 @@
  * explain.c: shows where two players' lines part.
  *
  *     explain script SCRIPT MODEL-LINES OTHER-LINES    the first line that differs, its call, those before it
+ *     explain bad SCRIPT MODEL-LINES OTHER-LINES       the same
  *     explain sheets SHEETS MODEL-LINES OTHER-LINES    the same for sheets
  *
  * It decides nothing: whether two files are equal is judged byte by byte by cmp.
@@ -68,7 +69,7 @@ static void print_sheet(struct bytes sheets, size_t number)
 int main(int words, char **word)
 {
     if (words != 5) {
-        fputs("usage: explain script|sheets INPUT MODEL-LINES OTHER-LINES\n", stderr);
+        fputs("usage: explain script|bad|sheets INPUT MODEL-LINES OTHER-LINES\n", stderr);
         return 2;
     }
     const struct bytes input = file_bytes(word[2]), model = file_bytes(word[3]), other = file_bytes(word[4]);
@@ -80,10 +81,10 @@ int main(int words, char **word)
         number++;
     }
     printf("%s differs at line %lu\n", word[2], (unsigned long)number + 1);
-    if (strcmp(word[1], "script") == 0) {
-        print_calls(input, number);
-    } else {
+    if (strcmp(word[1], "sheets") == 0) {
         print_sheet(input, number);
+    } else {
+        print_calls(input, number);
     }
     printf("the model:\n  %s\n", one != NULL ? one : "(no line)");
     printf("the code that is proved:\n  %s\n", two != NULL ? two : "(no line)");

@@ -18,7 +18,10 @@ void make_slots(struct script *script, size_t number);
  */
 void tell_breaks(FILE *file);
 
-/* Scripts that break off or are none, and two at the longest length; how many there are. */
+/*
+ * Scripts that break off or are none, and five at about the longest length: how many there are; the bytes of
+ * one, and their length. One that outgrows its room ends the program.
+ */
 size_t bad_scripts(void);
 size_t make_bad(uint8_t *bytes, size_t room, size_t number);
 
@@ -31,8 +34,7 @@ struct made_sheet {
 };
 void make_sheet(struct made_sheet *made, size_t number);
 
-/* One cell of a command or data byte; and the byte of an offered address. */
-uint16_t odd_cell(uint8_t byte);
+/* The byte of an offered address. */
 uint8_t offer_byte(uint8_t address);
 
 #endif

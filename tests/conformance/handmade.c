@@ -1,6 +1,5 @@
 /* handmade.c: machines made by hand: sound ones with one edit (or two), then calls of every kind. */
 #include <stdlib.h>
-#include <string.h>
 
 #include "breaks.h"
 #include "chance.h"
@@ -47,7 +46,8 @@ static void play_kinds(struct played *played)
         return;
     }
     for (uint32_t times = from(1, 3); times > 0; times--) {
-        play_letter(played, letters[chance(92) ? below(7) : 7], chance(80));
+        const char letter = letters[chance(92) ? below(7) : 7];
+        play_letter(played, letter, chance(80));
     }
 }
 

@@ -19,13 +19,16 @@ struct list {
     struct entry entries[MOST_ENTRIES];
 };
 
-/* One entry more, at a place. */
+/* One entry more, at a place; a list that is full loses its last one. */
 static struct entry *insert(struct list *list, size_t place, uint8_t kind, uint8_t length)
 {
-    struct entry *entry = &list->entries[place];
     if (list->length == MOST_ENTRIES) {
         list->length--;
     }
+    if (place > list->length) {
+        place = list->length;
+    }
+    struct entry *entry = &list->entries[place];
     memmove(entry + 1, entry, (list->length - place) * sizeof *entry);
     list->length++;
     memset(entry, 0, sizeof *entry);
@@ -142,13 +145,14 @@ static void wrong_facts(struct list *list)
 static void wrong_flips(struct list *list)
 {
     struct entry *flips = flips_of(list);
+    size_t place;
     switch (below(4)) {
     case 0: flips->length = 65; break;
     case 1: flips->length = 64; break;
     default:
         flips->length = (uint8_t)(flips->length > 0 ? flips->length : 1);
-        flips->body[chance(50) ? flips->length - 1u : below(flips->length)] =
-            (uint8_t)(chance(50) ? 9 : from(9, 255));
+        place = chance(50) ? flips->length - 1u : below(flips->length);
+        flips->body[place] = (uint8_t)(chance(50) ? 9 : from(9, 255));
         break;
     }
 }
@@ -170,6 +174,7 @@ static void wrong_entry(struct list *list)
 /* One thing wrong, or just right, in the list of entries. */
 static void spoil_list(struct list *list)
 {
+    size_t place;
     switch (below(12)) {
     case 0: fill_boards(list, chance(60) ? 34 : 33); break;
     case 1: fill_boards(list, from(34, 36)); break;
@@ -180,8 +185,14 @@ static void spoil_list(struct list *list)
     case 6:
         memmove(list->entries, list->entries + 1, --list->length * sizeof list->entries[0]);
         break;
-    case 7: insert_flips(list, below((uint32_t)list->length + 1), (uint8_t)below(5)); break;
-    case 8: (void)flips_of(list), insert_board(list, list->length); break;
+    case 7:
+        place = below((uint32_t)list->length + 1);
+        insert_flips(list, place, (uint8_t)below(5));
+        break;
+    case 8:
+        (void)flips_of(list);
+        insert_board(list, list->length);
+        break;
     case 9:
         (void)flips_of(list);
         insert_flips(list, list->length, (uint8_t)below(5));
@@ -277,14 +288,21 @@ static void lengthen(struct made_sheet *made)
 static void spoil_bytes(struct made_sheet *made)
 {
     static const uint32_t counts[] = { 0, 1, 33, 34, 35, 255 };
+    size_t place;
     switch (below(9)) {
     case 0: made->bytes[0] = (uint8_t)(made->bytes[0] + (chance(50) ? 1 : 255)); break;
     case 1: made->bytes[0] = (uint8_t)ONE_OF(counts); break;
     case 2: lengthen(made); break;
     case 3: made->length = (uint16_t)(chance(50) ? made->length - 1u : below(made->length + 1u)); break;
-    case 4: shift(made, below(made->length), chance(50)); break;
+    case 4:
+        place = below(made->length);
+        shift(made, place, chance(50));
+        break;
     case 5: open_gap(made); break;
-    case 6: made->bytes[below(made->length)] ^= (uint8_t)(1 << below(8)); break;
+    case 6:
+        place = below(made->length);
+        made->bytes[place] ^= (uint8_t)(1 << below(8));
+        break;
     default: spoil_entry(made); break;
     }
 }

@@ -113,14 +113,18 @@ static void change(struct model_reading *reading)
 /* One byte of the offers: the address byte's own bit, the accepted byte, any. */
 static void change_offers(uint8_t *offers, size_t length)
 {
-    const size_t place = length >= OFFER ? below((uint32_t)(length / OFFER)) * OFFER : 0;
+    size_t place, byte;
     if (length < OFFER) {
         return;
     }
+    place = below((uint32_t)(length / OFFER)) * OFFER;
     switch (below(3)) {
     case 0: offers[place + 8] ^= (uint8_t)(1 << below(8)); break;
     case 1: offers[place + 9] = (uint8_t)(chance(50) ? 2 : below(256)); break;
-    default: offers[place + below(OFFER)] = (uint8_t)any(); break;
+    default:
+        byte = below(OFFER);
+        offers[place + byte] = (uint8_t)any();
+        break;
     }
 }
 
@@ -147,18 +151,23 @@ static uint16_t any_lent_cells(void)
 static void put_noise(struct script *script)
 {
     uint8_t offers[340];
-    const struct model_reading reading = {
-        (uint8_t)below(3), (uint8_t)below(7), (uint8_t)any(), (uint8_t)any(),
-        chance(50), chance(50), below(30),
-    };
+    struct model_reading reading;
+    reading.joining = (uint8_t)below(3);
+    reading.command = (uint8_t)below(7);
+    reading.header = (uint8_t)any();
+    reading.new_address = (uint8_t)any();
+    reading.direct = chance(50);
+    reading.last = chance(50);
+    reading.offers = below(30);
     for (size_t place = 0; place < sizeof offers; place++) {
         offers[place] = (uint8_t)(chance(30) ? below(2) : any());
     }
-    put_write(script, any_lent_cells(), &reading, offers, (uint16_t)any_length(reading.offers));
+    const uint16_t lent = any_lent_cells();
+    put_write(script, lent, &reading, offers, (uint16_t)any_length(reading.offers));
 }
 
 /* Offers by chance, with good bytes; so many of them. */
-static void put_many(struct script *script, size_t offers)
+static void put_many(struct script *script, uint16_t lent, size_t offers)
 {
     static uint8_t bytes[256 * OFFER];
     const uint8_t joining = chance(50) ? 0 : 2;
@@ -170,7 +179,7 @@ static void put_many(struct script *script, size_t offers)
         bytes[offer * OFFER + 8] = offer_byte((uint8_t)below(128));
         bytes[offer * OFFER + 9] = (uint8_t)chance(20);
     }
-    put_write(script, any_lent_cells(), &reading, bytes, (uint16_t)(offers * OFFER));
+    put_write(script, lent, &reading, bytes, (uint16_t)(offers * OFFER));
 }
 
 /* What a record says, whole or with a number changed. */
@@ -206,10 +215,11 @@ void make_writes(struct script *script, size_t number)
 {
     put_opening(script);
     if (number % 25 == 4) {
-        put_many(script, 90 + number / 25 % 5);
+        put_many(script, LENT_MOST, 90 + number / 25 % 5);
     }
     if (number % 25 == 5) {
-        put_many(script, chance(50) ? from(20, MOST_OFFERS) : from(93, 255));
+        const uint16_t lent = any_lent_cells();
+        put_many(script, lent, chance(50) ? from(20, MOST_OFFERS) : from(93, 255));
     }
     if (number % 250 == 6) {
         put_longest_buffer(script);

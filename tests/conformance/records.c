@@ -21,7 +21,8 @@ static uint8_t odd_bit(uint8_t byte)
     return bit;
 }
 
-uint16_t odd_cell(uint8_t byte)
+/* The cell of a command or data byte. */
+static uint16_t odd_cell(uint8_t byte)
 {
     return (uint16_t)(byte * 2 + odd_bit(byte));
 }
@@ -51,8 +52,7 @@ static void walked_record(struct record *record)
     if (chance(35)) {
         play_join(&played, 8, (uint8_t)below(3));
     } else {
-        play_begin(&played, 8, (uint8_t)below(6), free_static(&machine), free_address(&machine),
-                   live_ticket(&machine));
+        play_good_begin(&played, (uint8_t)below(6));
     }
     for (uint32_t step = 0; step < patience && played.machine.moment != MODEL_IDLE; step++) {
         if (played.machine.moment == MODEL_LISTENING) {
@@ -80,7 +80,8 @@ static void add_offer(struct record *record)
     for (int byte = 0; byte < 8; byte++) {
         add(record, (uint16_t)(1024 + below(256)));
     }
-    add(record, (uint16_t)(offer_byte((uint8_t)below(128)) * 2 + chance(25)));
+    const uint8_t byte_offered = offer_byte((uint8_t)below(128));
+    add(record, (uint16_t)(byte_offered * 2 + chance(25)));
 }
 
 /* Assign: offers, then a silent round header or none. */

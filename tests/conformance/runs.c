@@ -1,6 +1,4 @@
 /* runs.c: bench runs with 0 to 40 boards. */
-#include <string.h>
-
 #include "breaks.h"
 #include "chance.h"
 #include "families.h"
@@ -32,23 +30,28 @@ static void any_boards(struct given *given, const struct model_machine *machine)
         given->boards[board].address = (uint8_t)(chance(with_address) ? from(1, 127) : 0);
     }
     if (given->count > 0 && chance(4)) {
-        given->boards[below(given->count)].address = (uint8_t)(chance(50) ? 128 : from(128, 255));
+        const size_t board = below(given->count);
+        given->boards[board].address = (uint8_t)(chance(50) ? 128 : from(128, 255));
     }
 }
 
 /* The flips: none, few, many; most change nothing, or most change a bit; rarely one over 8. */
 static void any_flips(struct given *given)
 {
-    static const uint32_t lengths[] = { 35, 45, 15, 5 };
+    static const uint32_t kinds[] = { 35, 45, 15, 5 };
     const uint32_t changing = chance(50) ? 15 : chance(60) ? 45 : 90;
-    const uint32_t most[] = { 0, from(1, 8), from(9, 70), 255 };
-    given->flips_length = (uint8_t)most[BY_WEIGHT(lengths)];
+    switch (BY_WEIGHT(kinds)) {
+    case 0: given->flips_length = 0; break;
+    case 1: given->flips_length = (uint8_t)from(1, 8); break;
+    case 2: given->flips_length = (uint8_t)from(9, 70); break;
+    default: given->flips_length = 255; break;
+    }
     for (size_t place = 0; place < given->flips_length; place++) {
         given->flips[place] = (uint8_t)(chance(changing) ? below(8) : 8);
     }
     if (given->flips_length > 0 && chance(6)) {
-        given->flips[chance(50) ? given->flips_length - 1u : below(given->flips_length)] =
-            (uint8_t)(chance(50) ? 9 : from(9, 255));
+        const size_t place = chance(50) ? given->flips_length - 1u : below(given->flips_length);
+        given->flips[place] = (uint8_t)(chance(50) ? 9 : from(9, 255));
     }
 }
 
@@ -64,7 +67,7 @@ static void play_any_run(struct played *played, uint8_t count)
     play_run(played, given.lent, given.flips, given.flips_length, given.boards, given.count);
 }
 
-/* How many boards: the first runs of a family go through 0 to 40; the others are mostly few. */
+/* How many boards, by chance: mostly few. */
 static uint8_t any_count(void)
 {
     static const uint32_t kinds[] = { 45, 30, 20, 5 };
@@ -123,10 +126,15 @@ static void play_ample_run(struct played *played, uint8_t count)
         boards[board].identity = any() << 8 | board;
         boards[board].address = 0;
     }
-    play_start(played, (uint8_t)below(4), legacy, MODEL_LEGACY, below(1000));
+    const uint8_t flags = (uint8_t)below(4);
+    play_start(played, flags, legacy, MODEL_LEGACY, below(1000));
     play_run(played, LENT_MOST, NULL, 0, boards, count);
 }
 
+/*
+ * Every eighth script begins with an ample run, of 0 to 32 boards in turn; the first run of about half of the
+ * others has the script's number of boards, from 0 to 40 and anew.
+ */
 void make_runs(struct script *script, size_t number)
 {
     struct played played;

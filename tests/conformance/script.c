@@ -8,7 +8,7 @@
 /* Room for so many bytes more; a script that outgrows its room is a mistake of this program. */
 static void need(const struct script *script, size_t more)
 {
-    if (more > SCRIPT_ROOM - script->length) {
+    if (more > SCRIPT_MOST - script->length) {
         fputs("generate: a script outgrows its room\n", stderr);
         exit(2);
     }

@@ -7,11 +7,13 @@
 
 #include "../model/model.h"
 
-enum { SCRIPT_ROOM = 400000, SCRIPT_MOST = 262144, LENT_MOST = 1024, CELLS_MOST = 1100, BOARDS_MOST = 40 };
+/* What a script may have: bytes, bytes or cells lent to a call, cells of a record, boards. */
+enum { SCRIPT_MOST = 262144, LENT_MOST = 1024, CELLS_MOST = 1100, BOARDS_MOST = 40 };
 
+/* One that outgrows its room would not be played to its end: that ends the program. */
 struct script {
     size_t length;
-    uint8_t bytes[SCRIPT_ROOM];
+    uint8_t bytes[SCRIPT_MOST];
 };
 
 /* A number of so many bytes; and bytes as they are. */

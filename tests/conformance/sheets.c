@@ -8,7 +8,10 @@
  * or a sheet that does, ends the program.
  *
  * It is linked with the library, or with model_rack.c. Under the address sanitizer each sheet is played a
- * second time from buffers of just its size, so that a byte read behind an end is seen too.
+ * second time from blocks of just its size. The model is compiled with the sanitizer, so that a byte which it
+ * reads behind an end is seen. The library is not: its writes are watched by the guard bytes, its reads only
+ * by the sanitizer's own memcpy and the like, and by the second time, which must come to the same. In a
+ * program without the sanitizer the guard bytes are all that watches.
  */
 #include <stdbool.h>
 #include <stdint.h>
@@ -21,12 +24,14 @@
 enum { GUARD = 64, GUARD_BYTE = 0xA5, FILL = 255, ROOM = 65536 };
 
 /* Whether the address sanitizer looks on; one compiler says so by a name, another has to be asked. */
-#if defined(__has_feature)
-#if __has_feature(address_sanitizer)
-#define __SANITIZE_ADDRESS__ 1
-#endif
-#endif
 #if defined(__SANITIZE_ADDRESS__)
+#define LOOKED_ON 1
+#elif defined(__has_feature)
+#if __has_feature(address_sanitizer)
+#define LOOKED_ON 1
+#endif
+#endif
+#if defined(LOOKED_ON)
 enum { TWICE = 1 };
 #else
 enum { TWICE = 0 };
@@ -78,21 +83,24 @@ static uint32_t play(const uint8_t *sheet, size_t length, size_t lent)
     return answer;
 }
 
-/* Plays it again from buffers of just its size; it must come to the same. */
-static void play_again(const uint8_t *sheet, size_t length, size_t lent, uint32_t answer)
+/* A block of so many bytes; of one where it should have none, for a pointer is never null. */
+static uint8_t *block(size_t length)
 {
-    uint8_t *given = malloc(length), *listing = malloc(lent);
-    if ((given == NULL && length > 0) || (listing == NULL && lent > 0)) {
+    uint8_t *bytes = malloc(length + !length);
+    if (bytes == NULL) {
         fail("no memory");
     }
-    if (length > 0) {
-        memcpy(given, sheet, length);
-    }
-    if (lent > 0) {
-        memset(listing, FILL, lent);
-    }
+    return bytes;
+}
+
+/* Plays it again from blocks of just its size; it must come to the same. */
+static void play_again(const uint8_t *sheet, size_t length, size_t lent, uint32_t answer)
+{
+    uint8_t *given = block(length), *listing = block(lent);
+    memcpy(given, sheet, length);
+    memset(listing, FILL, lent);
     if (rack_sheet_run(given, length, listing, lent) != answer
-        || (lent > 0 && memcmp(listing, listing_room + GUARD, lent) != 0)) {
+        || memcmp(listing, listing_room + GUARD, lent) != 0) {
         fail("a second time comes to something else");
     }
     free(given);

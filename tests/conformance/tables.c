@@ -4,7 +4,6 @@
 #include <string.h>
 
 #include "chance.h"
-#include "played.h"
 
 static const uint32_t addresses_at_edges[] = {
     0x00, 0x01, 0x02, 0x03, 0x04, 0x05, 0x06, 0x07, 0x08, 0x09, 0x3D, 0x3E, 0x3F, 0x5D, 0x5E, 0x5F, 0x6D,
@@ -61,11 +60,17 @@ static void any_legacy(struct model_facts *facts)
 {
     static const uint32_t kinds[] = { 40, 30, 8, 19, 3 };
     const size_t kind = BY_WEIGHT(kinds);
-    const uint32_t times[] = { 0, from(1, 6), from(20, 90), from(1, 8), 0 };
+    uint32_t times = 0;
     if (kind >= 3) {
         all_legacy(facts);
     }
-    for (uint32_t time = 0; time < times[kind]; time++) {
+    switch (kind) {
+    case 1: times = from(1, 6); break;
+    case 2: times = from(20, 90); break;
+    case 3: times = from(1, 8); break;
+    default: break;
+    }
+    for (; times > 0; times--) {
         flip_legacy(facts, (uint8_t)from(0x08, 0x77));
     }
 }
@@ -231,24 +236,33 @@ struct model_machine sound_machine(void)
             memset(facts.legacy, 0, sizeof facts.legacy);
         }
         return sound_machine_of(facts, from(30, 32));
-    case 4: return sound_machine_of(tight_facts(), from(0, 4));
+    case 4:
+        facts = tight_facts();
+        return sound_machine_of(facts, from(0, 4));
     default:
         facts.last = UINT32_MAX - below(3);
         return sound_machine_of(facts, from(0, 8));
     }
 }
 
+void play_good_begin(struct played *played, uint8_t choice)
+{
+    const struct model_machine *machine = &played->machine;
+    const uint8_t from_static = free_static(machine);
+    const uint8_t address = free_address(machine);
+    play_begin(played, 8, choice, from_static, address, live_ticket(machine));
+}
+
 /* Plays a begin with good arguments, of a choice that can lead to the moment. */
 static void begin_for(struct played *played, uint8_t moment)
 {
-    const struct model_machine *machine = &played->machine;
     uint8_t choice = 0;
     if (moment == MODEL_OPENED) {
         choice = (uint8_t)below(6);
     } else if (moment == MODEL_DIRECT) {
         choice = (uint8_t)from(2, 3);
     }
-    play_begin(played, 8, choice, free_static(machine), free_address(machine), live_ticket(machine));
+    play_good_begin(played, choice);
 }
 
 /* Steps from the opened moment towards another: answered, but with a refused offer now and then. */

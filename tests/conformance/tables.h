@@ -5,7 +5,7 @@
 #ifndef TABLES_H
 #define TABLES_H
 
-#include "../model/model.h"
+#include "played.h"
 
 /* What the identities of one script have in common; to be called at its beginning. */
 void new_identities(void);
@@ -49,6 +49,9 @@ size_t any_row(const struct model_machine *machine);
 uint8_t free_address(const struct model_machine *machine);
 uint8_t free_static(const struct model_machine *machine);
 uint32_t live_ticket(const struct model_machine *machine);
+
+/* Plays a begin of a choice with such arguments. */
+void play_good_begin(struct played *played, uint8_t choice);
 
 /* Arguments near an edge. */
 uint8_t edge_address(const struct model_machine *machine);

@@ -166,7 +166,8 @@ void play_step(struct played *played)
     const uint8_t moment = played->machine.moment;
     const bool good = chance(80);
     if (chance(12)) {
-        play_letter(played, any_letter(), chance(70));
+        const char letter = any_letter();
+        play_letter(played, letter, chance(70));
     } else if (moment == MODEL_IDLE) {
         step_idle(played, good);
     } else if (chance(4)) {
@@ -174,7 +175,8 @@ void play_step(struct played *played)
     } else if (moment == MODEL_LISTENING) {
         play_letter(played, 'i', good);
     } else {
-        play_answer(played, good ? 8 : any_lent(), yes(chance(answered[moment])));
+        const uint16_t lent = good ? 8 : any_lent();
+        play_answer(played, lent, yes(chance(answered[moment])));
     }
 }
 

@@ -5,6 +5,7 @@
 #include <string.h>
 
 #include "model.h"
+#include "same.h"
 
 enum {
     SCRIPT_BYTES = 262144,
@@ -349,31 +350,6 @@ static struct played play_run(run_call *call, const struct model_machine *m, con
     check_guards(p.boards);
     check_guards(p.cells);
     return p;
-}
-
-static bool same_row(const struct model_row *a, const struct model_row *b)
-{
-    return a->address == b->address && a->ticket == b->ticket && a->unknown == b->unknown
-        && a->identity == b->identity && a->from_static == b->from_static;
-}
-
-static bool same_machine(const struct model_machine *a, const struct model_machine *b)
-{
-    for (size_t i = 0; i < MODEL_ROWS; i++)
-        if (!same_row(&a->rows[i], &b->rows[i]))
-            return false;
-    return a->facts.flags == b->facts.flags && memcmp(a->facts.legacy, b->facts.legacy, MODEL_LEGACY) == 0
-        && a->facts.last == b->facts.last && a->moment == b->moment && a->choice == b->choice
-        && a->asked == b->asked && a->wanted == b->wanted && a->identity == b->identity
-        && a->offered == b->offered && a->refusals == b->refusals;
-}
-
-static bool same_boards(const struct model_board *a, const struct model_board *b, size_t count)
-{
-    for (size_t i = 0; i < count; i++)
-        if (a[i].identity != b[i].identity || a[i].address != b[i].address)
-            return false;
-    return true;
 }
 
 static bool same_played(const struct played *a, const struct played *b, size_t count)

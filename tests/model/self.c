@@ -4,6 +4,7 @@
 #include <string.h>
 
 #include "rules.h"
+#include "same.h"
 
 static unsigned passed, failed;
 
@@ -46,23 +47,6 @@ static bool is_legacy_place(unsigned a)
 static void set_legacy(uint8_t *legacy, unsigned a)
 {
     legacy[a / 8] |= (uint8_t)(1u << a % 8);
-}
-
-static bool same_row(const struct model_row *a, const struct model_row *b)
-{
-    return a->address == b->address && a->ticket == b->ticket && a->unknown == b->unknown
-        && a->identity == b->identity && a->from_static == b->from_static;
-}
-
-static bool same_machine(const struct model_machine *a, const struct model_machine *b)
-{
-    for (size_t i = 0; i < MODEL_ROWS; i++)
-        if (!same_row(&a->rows[i], &b->rows[i]))
-            return false;
-    return a->facts.flags == b->facts.flags && memcmp(a->facts.legacy, b->facts.legacy, MODEL_LEGACY) == 0
-        && a->facts.last == b->facts.last && a->moment == b->moment && a->choice == b->choice
-        && a->asked == b->asked && a->wanted == b->wanted && a->identity == b->identity
-        && a->offered == b->offered && a->refusals == b->refusals;
 }
 
 static bool cells_are(const uint16_t *cells, size_t wrote, const uint16_t *wanted, size_t count)
@@ -628,14 +612,6 @@ static bool same_run(const struct model_run *a, const struct model_run *b)
 {
     return a->refusal == b->refusal && a->wrote == b->wrote && a->ending == b->ending
         && a->rounds == b->rounds && a->clocks == b->clocks && same_machine(&a->machine, &b->machine);
-}
-
-static bool same_boards(const struct model_board *a, const struct model_board *b, size_t count)
-{
-    for (size_t i = 0; i < count; i++)
-        if (a[i].identity != b[i].identity || a[i].address != b[i].address)
-            return false;
-    return true;
 }
 
 /* Accepted identities strictly rise, and answered rounds are at most twice the boards without an address. */
