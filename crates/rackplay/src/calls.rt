@@ -136,7 +136,7 @@ fn run(machine: Machine, call: &[u8], out: &mut [u8]) -> Played {
 fn run_on(machine: Machine, call: &[u8], cells: &mut [u16], out: &mut [u8]) -> Played {
     let many = given::small_count(call, 3);
     let count = given::small_count(call, 4 + many);
-    let boards = hand_made::boards(call, 5 + many, count);
+    let boards = hand_made::boards(&call[at_most(5 + many, call.len())..], count);
     let rest = &call[at_most(4, call.len())..];
     let flips = &rest[0..at_most(many, rest.len())];
     let n = at_most(given::lent(call), cells.len());

@@ -1,5 +1,4 @@
 // What a script makes by hand: a machine, boards, a record, a reading.
-ghost use Prim.Native.Nat.{_≤_};
 use crate::given;
 use boards::Board;
 use lent::NO_BOARD;
@@ -75,16 +74,14 @@ fn row(bytes: &[u8]) -> Row {
     }
 }
 
-// The boards of a bench run that stand from a place on, so many of them.
-pub fn boards(call: &[u8], place: usize, count: usize) -> [Board; 40]
-    requires { ⌜ place ≤ 260 ⌝ }
-{
+// The boards with which these bytes begin, so many of them.
+pub fn boards(bytes: &[u8], count: usize) -> [Board; 40] {
     let mut out = [NO_BOARD; 40];
     let mut i: usize = 0;
     while i < 40 {
         if i < count {
-            let from = at_most(place + 9 * i, call.len());
-            out[i] = board(&call[from..]);
+            let from = at_most(9 * i, bytes.len());
+            out[i] = board(&bytes[from..]);
         }
         i += 1;
     }

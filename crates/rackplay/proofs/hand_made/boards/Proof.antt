@@ -5,19 +5,16 @@ use Rattle.rackplay.proofs.hand_made.boards.Statement.{statement}
 use Rattle.rackplay.proofs.hand_made.boards.Tie as tie
 
 abbrev Inv-loop : tie.InvT-loop
-Inv-loop call place count out₀ i₀ out i = i ≤ 40
+Inv-loop bytes count out₀ i₀ out i = i ≤ 40
 
 abbrev μ-loop : tie.MeasureT-loop
-μ-loop call place count out₀ i₀ out i = 40 - i
+μ-loop bytes count out₀ i₀ out i = 40 - i
 
 loop-holds : tie.Need-loop-holds Inv-loop μ-loop
 loop-holds c = search needs
 
 mul-at-most : tie.Need-mul-at-most Inv-loop μ-loop
 mul-at-most c = search needs
-
-add-at-most : tie.Need-add-at-most Inv-loop μ-loop
-add-at-most c = search needs
 
 at-most-requires : tie.Need-at-most-requires Inv-loop μ-loop
 at-most-requires c κs = search needs
@@ -60,7 +57,6 @@ boards-spec =
     μ-loop
     loop-holds
     mul-at-most
-    add-at-most
     at-most-requires
     sub-board
     part-board-start
