@@ -1,7 +1,6 @@
 // A line in the making. Each function puts something at a place of the line and says the next place; what does not fit is left out.
-ghost use Prim.Native.Nat.{_≤_};
-ghost use lib.ListN.{length};
 use lines::cells::BLANK_CELL;
+use lines::numbers::at_most;
 
 // What every byte is before a call.
 pub const BLANK_BYTE: u8 = 255;
@@ -80,7 +79,7 @@ pub fn hex(out: &mut [u8], from: usize, bytes: &[u8]) -> usize {
 // The word `cells` and the lent cells, up to the last one that is not blank.
 pub fn cells(out: &mut [u8], from: usize, lent: &[u16]) -> usize {
     let mut at = word(out, from, b" cells");
-    let many = cells_told(lent);
+    let many = at_most(cells_told(lent), lent.len());
     let mut i: usize = 0;
     while i < many {
         at = number(out, at, b" ", wide(lent[i]));
@@ -95,9 +94,7 @@ fn wide(cell: u16) -> u64 {
 }
 
 // How many cells there are up to the last one that is not blank.
-fn cells_told(lent: &[u16]) -> usize
-    ensures { λ r. ⌜ r ≤ length (now (lent .entry)) ⌝ }
-{
+fn cells_told(lent: &[u16]) -> usize {
     let mut i = lent.len();
     while 0 < i {
         if lent[i - 1] != BLANK_CELL {
@@ -110,7 +107,7 @@ fn cells_told(lent: &[u16]) -> usize
 
 // The lent bytes up to the last one that is not blank, in hexadecimal; a `-` if there is none.
 pub fn bytes(out: &mut [u8], from: usize, lent: &[u8]) -> usize {
-    let many = bytes_told(lent);
+    let many = at_most(bytes_told(lent), lent.len());
     if many == 0 {
         return word(out, from, b"-");
     }
@@ -118,9 +115,7 @@ pub fn bytes(out: &mut [u8], from: usize, lent: &[u8]) -> usize {
 }
 
 // How many bytes there are up to the last one that is not blank.
-fn bytes_told(lent: &[u8]) -> usize
-    ensures { λ r. ⌜ r ≤ length (now (lent .entry)) ⌝ }
-{
+fn bytes_told(lent: &[u8]) -> usize {
     let mut i = lent.len();
     while 0 < i {
         if lent[i - 1] != BLANK_BYTE {

@@ -21,6 +21,9 @@ word-requires c κs = search needs
 cells-told-requires : tie.Need-cells-told-requires Inv-loop μ-loop
 cells-told-requires c κs = search needs
 
+at-most-requires : tie.Need-at-most-requires Inv-loop μ-loop
+at-most-requires c κs = search needs
+
 loop-holds : tie.Need-loop-holds Inv-loop μ-loop
 loop-holds c = search needs
 
@@ -63,6 +66,7 @@ cells-spec =
     slice-aggregate-word
     word-requires
     cells-told-requires
+    at-most-requires
     loop-holds
     slice-aggregate-number
     mul-wide
