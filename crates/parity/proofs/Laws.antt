@@ -14,18 +14,7 @@ use Rattle.lists.proofs.Bits.{bit-zero, bit-suc, bit-there}
 use Rattle.parity.specs.Parity.{parity, oddBit, oddOnes, flip}
 use Rattle.parity.specs.Cells.{writeByte, offeredByte}
 
--- ---- counting
-
--- one bit more: the lowest counts itself, and the others count in the half
-pub ones-more : (n x : ℕ) → 0 < n → onesIn n x ≡ x % 2 + onesIn (n - 1) (x / 2)
-unfolding onesIn
-ones-more zero x h = absurd (not-suc-le-zero h)
-ones-more (suc n) x h = let e : suc n - 1 ≡ n = omega arith in rw e
-
-pub ones-none : (n x : ℕ) → n ≤ 0 → onesIn n x ≡ 0
-unfolding onesIn
-ones-none zero x h = refl
-ones-none (suc n) x h = absurd (not-suc-le-zero h)
+-- ---- 0 or 1
 
 pub parity-lt : (n x : ℕ) → parity n x < 2
 unfolding parity

@@ -8,6 +8,10 @@ ghost use Rattle.parity.specs.Parity.{flip as Parity·flip, flipped as P
 ghost use Rattle.parity.specs.Cells.{dataCell, answerCell, identityCell, writeByte, offeredByte, namedCells};
 ghost use Rattle.parity.specs.Cells.{clocks as Cells·clocks};
 
+mod ninths;
+
+use ninths::NINTH;
+
 // What opens, reopens and ends a record: no clocks.
 pub const START: u16 = 512;
 
@@ -71,20 +75,12 @@ pub fn named_cells() -> [u16; 16]
     ]
 }
 
-// The ninth bit after a command or data byte: it makes the count of ones in all nine odd. It is 1, turned by each bit that is 1.
+// The ninth bit after a command or data byte: it makes the count of ones in all nine odd. It is read from a list: the bus interrupt counts no bits.
 pub fn ninth_bit(byte: u8) -> u8
     ensures small { λ r. ⌜ r < 2 ⌝ }
     ensures { λ r. ⌜ r ≡ oddBit 8 byte ⌝ }
 {
-    let mut left: u8 = 8;
-    let mut rest = byte;
-    let mut bit: u8 = 1;
-    while 0 < left {
-        bit = (bit + rest % 2) % 2;
-        rest = rest / 2;
-        left -= 1;
-    }
-    bit
+    NINTH[byte as usize]
 }
 
 // The cell of a command or data byte.

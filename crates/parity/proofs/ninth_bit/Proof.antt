@@ -1,38 +1,24 @@
--- `parity::ninth_bit` meets its contract. The loop's invariant: the bit so far and the ones that are left have the parity of 1 and all ones.
-use Prim.Native.Nat.{_+_, _%_, _<_}
+-- `parity::ninth_bit` meets its contract: the rule is one test at each of the 256 entries, which antt computes.
 use mathlib.Core.Path.{_≡_}
-use native.Mathlib.Omega.{arith}
+use Prim.Native.Nat.{ℕ, _<_}
 use lib.Count.{onesIn}
+use borrow.Author.Needs.{needs}
+use Rattle.lists.proofs.Tables.{tabled}
 use Rattle.parity.specs.Parity.{parity, oddBit}
-use Rattle.parity.proofs.Laws.{ones-more, ones-none}
+use Rattle.parity.proofs.Laws.{odd-bit-lt}
 use Rattle.parity.proofs.ninth_bit.Statement.{statement}
 use Rattle.parity.proofs.ninth_bit.Tie as tie
 
-abbrev Inv-loop : tie.InvT-loop
-Inv-loop byte left₀ rest₀ bit₀ left rest bit = (bit < 2) × ((bit + onesIn left rest) % 2 ≡ (1 + onesIn 8 byte) % 2)
+-- what is an odd bit is 0 or 1
+small : (n x b : ℕ) → b ≡ oddBit n x → (b < 2) × (b ≡ oddBit n x)
+small n x b e = (rw e (odd-bit-lt n x), e)
 
-abbrev μ-loop : tie.MeasureT-loop
-μ-loop byte left₀ rest₀ bit₀ left rest bit = left
+array-read-result : tie.Need-array-read-result
+array-read-result c = search needs
 
-loop-holds : tie.Need-loop-holds Inv-loop μ-loop
-loop-holds c = omega arith
-
-add-bit : tie.Need-add-bit Inv-loop μ-loop
-add-bit c = omega arith
-
-sub-left : tie.Need-sub-left Inv-loop μ-loop
-sub-left c = omega arith
-
-loop-less : tie.Need-loop-less Inv-loop μ-loop
-loop-less c = omega arith
-
-loop-again : tie.Need-loop-again Inv-loop μ-loop
-loop-again c = omega (arith, ones-more (c .before .loop .left) (c .before .loop .rest) (c .loop-test .taken))
-
-returns : tie.Need-returns Inv-loop μ-loop
-unfolding oddBit parity
-returns c = omega (arith, ones-none (c .before .loop .left) (c .before .loop .rest) (c .loop-test .left))
+returns : tie.Need-returns
+unfolding oddBit parity onesIn
+returns c = search (small, tabled (oddBit 8), tt, array-read-result c)
 
 pub ninth-bit-spec : {M : Type 1} → statement M
-ninth-bit-spec =
-    tie.close (tie.spec Inv-loop μ-loop loop-holds add-bit sub-left loop-less loop-again returns)
+ninth-bit-spec = tie.close (tie.spec array-read-result returns)
