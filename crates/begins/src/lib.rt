@@ -1,4 +1,6 @@
 // What Begin and Join ask of the table, by choice, and what may be remembered of it.
+#![tactic(auto)]
+
 ghost use Rattle.std.specs.Prelude.{◌≡◌};
 ghost use Rattle.begins.specs.Begins.{static_held, assign_refusal, set_out_of_range, set_not_open, set_held, set_refusal, move_refusal, choice_refusal, joining_refusal, can_set, can_move, asked_right};
 

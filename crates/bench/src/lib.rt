@@ -2,6 +2,8 @@
 //
 //     512 504 14 513 | 506 identity, eight cells | address 513 | 506 .. | 507 514
 //     opened           a round                                   ..       silent: all have an address
+#![tactic(auto)]
+
 ghost use Rattle.std.specs.Prelude.{◌≡◌, ◌≤◌, length};
 ghost use Rattle.lists.specs.Buffers.{lay};
 ghost use Rattle.bench.specs.Play.{clocks_in};
@@ -37,7 +39,7 @@ pub const NO_BOARDS: u8 = 5;
 
 // What a run hands back: the machine, the boards, how many cells it wrote, its ending, the answered rounds and the clocks of these cells, and its refusal,
 // 0 for none. A refused run has 0 in every other number.
-#[derive(Drop)]
+#[derive(Clone, Copy)]
 pub struct Ran {
     pub machine: Machine,
     pub boards: [Board; 32],

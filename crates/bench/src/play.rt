@@ -14,7 +14,7 @@ use machine::{Machine, Moment};
 const MOST_ROUNDS: usize = 65;
 
 // A run as far as it is played: `at` cells are written. As long as it goes on, its ending is the one that a silent round header leaves.
-#[derive(Drop)]
+#[derive(Clone, Copy)]
 pub struct Played {
     pub machine: Machine,
     pub boards: [Board; 32],

@@ -5,18 +5,20 @@
 //     let still = boards::waiting(boards, count);      who answers 7Eh/R
 //     let heard = boards::listen(boards, still);       64 bits later: the identity that won, and its bearers
 //     let after = boards::offer(boards, heard.still, byte);
+#![tactic(auto)]
+
 ghost use Rattle.std.specs.Prelude.{◌≡◌, ◌<◌, map, length};
 ghost use Rattle.boards.specs.Wire.{board_of, wire_bit, stay_in, hear, takes, after_byte, waiting_first, anyone};
 
 // A board: its identity (48-bit Provisioned ID, BCR, DCR, highest bit first), and its address, 0 for none.
-#[derive(Drop)]
+#[derive(Clone, Copy)]
 pub struct Board {
     pub identity: u64,
     pub address: u8,
 }
 
 // What a round hears, and who is still in at its end.
-#[derive(Drop)]
+#[derive(Clone, Copy)]
 pub struct Heard {
     pub identity: u64,
     pub still: [bool; 32],

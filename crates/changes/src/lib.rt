@@ -1,6 +1,8 @@
 // The rows changed: one more, one less, one renewed, one moved, all gone.
 //
 // Nothing here judges the rows: every function takes any 32 of them.
+#![tactic(auto)]
+
 ghost use Rattle.std.specs.Prelude.{◌≡◌, replicate};
 ghost use Rattle.lists.specs.Lists.{find};
 ghost use Rattle.rows.specs.Rows.{no_row};

@@ -5,7 +5,7 @@ use lines::numbers::Numbers;
 
 // The desk, the numbers to compare with what the script says, whether all that had to stay is as it was, and whether the writer gave back the
 // record that was read.
-#[derive(Drop)]
+#[derive(Clone, Copy)]
 pub struct Came {
     pub desk: Desk,
     pub numbers: Numbers,

@@ -3,7 +3,7 @@ use lines::cells::BLANK_CELL;
 use lines::numbers::{Numbers, at_most, byte, cell, size};
 
 // The record is the first `length` cells. Of the bytes the reader is lent `room` and the writer `span`; of its own cells the writer is lent `lent`.
-#[derive(Drop)]
+#[derive(Clone, Copy)]
 pub struct Desk {
     pub cells: [u16; 1100],
     pub length: usize,

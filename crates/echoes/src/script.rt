@@ -11,7 +11,7 @@ use lines::words;
 use lines::words::Line;
 
 // Where the script stands: the desk, and the group.
-#[derive(Drop)]
+#[derive(Clone, Copy)]
 struct Standing {
     desk: Desk,
     group: Group,

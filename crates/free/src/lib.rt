@@ -1,4 +1,6 @@
 // What a table has left to give: a place, a free address, a ticket; and which address an identity is offered.
+#![tactic(auto)]
+
 ghost use Rattle.std.specs.Prelude.{ℕ, ◌<◌, ◌≡◌, false, get_or};
 ghost use Rattle.rows.specs.Rows.{holds_address};
 ghost use Rattle.free.specs.Free.{is_free, lowest_free, address_for, no_free_address, can_assign};

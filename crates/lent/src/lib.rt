@@ -2,6 +2,8 @@
 // cells as they were.
 //
 // At most the first 32 boards, and the length of the list, go to `bench::run`, which refuses or plays; as many are copied back.
+#![tactic(auto)]
+
 ghost use Rattle.std.specs.Prelude.{◌≡◌, length};
 ghost use Rattle.lists.specs.Buffers.{lay};
 ghost use Rattle.lent.specs.Runs.{reported, lent_run, lent_cells, owned_run, owned_cells};
@@ -20,7 +22,7 @@ pub const NO_BOARD: Board = Board {
 
 // What a run over a lent list hands back: the machine, how many cells it wrote, its ending, the answered rounds and the clocks of these cells, and its
 // refusal, 0 for none. A refused run has the machine as given, and 0 in every other number. The boards are in the list.
-#[derive(Drop)]
+#[derive(Clone, Copy)]
 pub struct Report {
     pub machine: Machine,
     pub count: usize,
@@ -60,7 +62,7 @@ pub fn run(machine: Machine, boards: &mut [Board], flips: &[u8], cells: &mut [u1
 }
 
 // What a run over boards of the caller's own hands back: the report, and the boards.
-#[derive(Drop)]
+#[derive(Clone, Copy)]
 pub struct Owned {
     pub report: Report,
     pub boards: [Board; 40],

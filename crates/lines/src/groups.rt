@@ -4,7 +4,7 @@ use libc::STDOUT_FILENO;
 use tally::{Tally, one_more};
 
 // The number of the line that is played, the tally of its group, and where the group's name stands in the text, from and to.
-#[derive(Drop)]
+#[derive(Clone, Copy)]
 pub struct Group {
     number: u32,
     tally: Tally,

@@ -4,7 +4,7 @@ ghost use Rattle.std.specs.Prelude.{◌≤◌};
 use libc::STDOUT_FILENO;
 
 // Up to 24 numbers, in the first `count` places. No line of the script has as many.
-#[derive(Drop)]
+#[derive(Clone, Copy)]
 pub struct Numbers {
     pub list: [u64; 24],
     pub count: usize,
@@ -107,7 +107,7 @@ fn wide(byte: u8) -> u64 {
 // ---- a word read
 
 // What is read of a word: a number, if the word is one.
-#[derive(Drop)]
+#[derive(Clone, Copy)]
 pub struct Reading {
     pub value: u64,
     pub right: bool,

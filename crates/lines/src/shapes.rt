@@ -3,7 +3,7 @@ use crate::numbers::Numbers;
 use crate::words::Line;
 
 // How many numbers stand before the sign: at least and at most.
-#[derive(Drop)]
+#[derive(Clone, Copy)]
 pub struct HowMany {
     least: usize,
     most: usize,

@@ -4,7 +4,7 @@ use crate::numbers::{Numbers, Reading};
 
 // A line: the first letter of its first word, 0 if it has none; the numbers before the sign `=`, and those behind it. It is right if each of its
 // other words is a number, and there is no second sign.
-#[derive(Drop)]
+#[derive(Clone, Copy)]
 pub struct Line {
     pub letter: u8,
     pub given: Numbers,

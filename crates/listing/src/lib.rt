@@ -4,6 +4,8 @@
 //     08 1 0200000000000641
 //     09 2 0200000010000641
 //     end 0 rounds 3 clocks 273
+#![tactic(auto)]
+
 ghost use Rattle.std.specs.Prelude.{◌≡◌, ◌+◌, ◌≤◌, cond, [], length};
 ghost use Rattle.lists.specs.Buffers.{lay, lay_at};
 ghost use Rattle.rows.specs.Rows.{in_use};

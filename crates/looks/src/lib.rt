@@ -1,4 +1,6 @@
 // What stands in a machine, as numbers, for a program that plays a script; whether two machines are the same; and a machine made by hand.
+#![tactic(auto)]
+
 pub mod by_hand;
 pub mod same;
 

@@ -6,7 +6,7 @@ ghost use Rattle.machine.specs.Calls.{laid};
 use crate::Machine;
 
 // The machine after the step, the cells that it writes in the first `count` of eight places, and its refusal, 0 for none.
-#[derive(Drop)]
+#[derive(Clone, Copy)]
 pub struct Did {
     pub machine: Machine,
     pub out: [u16; 8],

@@ -7,6 +7,8 @@
 //     begin, join    from idle; then `answer` and `identity` as the moment asks, until it is idle again
 //     give_up        back to idle from any other moment
 //     retire, ask    what becomes of a ticket
+#![tactic(auto)]
+
 ghost use Rattle.std.specs.Prelude.{◌≡◌, ◌++◌, ◌≤◌, length, take, drop};
 ghost use Rattle.slots.specs.Slots.{facts_of};
 ghost use Rattle.machine.specs.Refusals.{rest_refusal};
@@ -32,7 +34,7 @@ pub const TOO_FEW_CELLS: u8 = 11;
 pub const BROKEN_MACHINE: u8 = 28;
 
 // The moments. What each remembers stands beside it; all else is 0.
-#[derive(Drop)]
+#[derive(Clone, Copy)]
 pub enum Moment {
     Idle, // nothing
     Opened, // choice, asked, wanted
@@ -44,7 +46,7 @@ pub enum Moment {
 
 // The bus facts, the rows in order of address, the moment, and what it remembers: the choice that was begun, the address that it asks (static for a
 // set, present for a move) and the new address wanted; the identity heard and the address that it is offered; the refusals in succession.
-#[derive(Drop)]
+#[derive(Clone, Copy)]
 pub struct Machine {
     pub facts: Facts,
     pub rows: [Row; 32],
@@ -58,7 +60,7 @@ pub struct Machine {
 }
 
 // What a call hands back: the machine, how many cells it wrote, and its refusal, 0 for none.
-#[derive(Drop)]
+#[derive(Clone, Copy)]
 pub struct Stepped {
     pub machine: Machine,
     pub count: usize,
@@ -66,7 +68,7 @@ pub struct Stepped {
 }
 
 // What is said of a ticket: its present address, or 0 and a refusal.
-#[derive(Drop)]
+#[derive(Clone, Copy)]
 pub struct TicketAnswer {
     pub address: u8,
     pub refusal: u8,

@@ -1,6 +1,8 @@
 // Parity, and the cells that a record is made of.
 //
 // A cell is a 16-bit number: a byte times 2 plus its ninth bit, or one of the numbers below.
+#![tactic(auto)]
+
 ghost use Rattle.std.specs.Prelude.{◌≡◌, ◌<◌};
 ghost use Rattle.parity.specs.Parity.{odd_bit, odd_ones};
 ghost use Rattle.parity.specs.Parity.{flip, flipped};

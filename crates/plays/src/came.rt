@@ -7,7 +7,7 @@ use machine::{Machine, Stepped};
 
 // The machine, the numbers to compare with what the script says, whether no cell behind those written was touched, and whether the machine is as
 // it was if the call was refused.
-#[derive(Drop)]
+#[derive(Clone, Copy)]
 pub struct Came {
     pub machine: Machine,
     pub numbers: Numbers,

@@ -2,6 +2,8 @@
 // says. A step that did not stands above its group's line, with its line number and what it came to.
 //
 // The script comes from standard input; its head says what a line can be.
+#![tactic(auto)]
+
 mod calls;
 mod came;
 mod script;

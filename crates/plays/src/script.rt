@@ -11,7 +11,7 @@ use looks::by_hand;
 use machine::Machine;
 
 // Where the script stands: the machine, how many cells its calls are lent, and the group.
-#[derive(Drop)]
+#[derive(Clone, Copy)]
 struct Standing {
     machine: Machine,
     lent: usize,

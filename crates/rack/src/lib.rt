@@ -1,4 +1,6 @@
 // The functions that C firmware calls; include/rack.h declares them.
+#![tactic(auto)]
+
 ghost use Rattle.std.specs.Prelude.{◌≡◌, length};
 ghost use Rattle.lists.specs.Buffers.{lay};
 ghost use Rattle.slots.specs.Slots.{facts_of, slot_test};

@@ -10,7 +10,7 @@ use tells::{line, seen};
 use writer::Written;
 
 // The machine that a call leaves, and how long its line is so far.
-#[derive(Drop)]
+#[derive(Clone, Copy)]
 pub struct Played {
     pub machine: Machine,
     pub used: usize,

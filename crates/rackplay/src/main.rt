@@ -2,6 +2,8 @@
 //
 // The script comes from standard input. A call is a letter and its bytes; numbers of more than one byte stand high byte first. A letter that is none,
 // and a call that does not end, are told with their place, and end the script: `bad script at PLACE`.
+#![tactic(auto)]
+
 ghost use Rattle.std.specs.Prelude.{◌≡◌, length};
 
 mod calls;

@@ -1,4 +1,6 @@
 // Reads a sheet from standard input and prints the listing of its run, or the line `refused N`.
+#![tactic(auto)]
+
 ghost use Rattle.std.specs.Prelude.{◌≡◌, length};
 ghost use Rattle.lists.specs.Buffers.{lay};
 ghost use Rattle.rackrun.specs.Answers.{answer};

@@ -2,6 +2,8 @@
 //
 // A record is START to STOP, one cell for each thing that stood on the bus. The reading says joining, command, addresses and how many offers; the
 // offers themselves, ten bytes each, go to a lent buffer.
+#![tactic(auto)]
+
 ghost use Rattle.std.specs.Prelude.{◌≡◌, length};
 ghost use Rattle.lists.specs.Buffers.{lay};
 ghost use Rattle.reader.specs.Read.{answer_to, offers_to};
@@ -21,7 +23,7 @@ pub const NO_ROOM: u8 = 15;
 
 // What a record says, or a refusal, 0 for none. With NO_LAYOUT, the place of the first cell that can't continue a layout, counted from 0, or the
 // length of a record that breaks off. After a refusal all else is 0.
-#[derive(Drop)]
+#[derive(Clone, Copy)]
 pub struct Answer {
     pub reading: Reading,
     pub refusal: u8,

@@ -2,6 +2,8 @@
 //
 // Beside it stand ten bytes for each offer, in a buffer that is lent: the identity, highest byte first, the address byte as it was on the bus, and
 // 0 for accepted or 1 for refused.
+#![tactic(auto)]
+
 ghost use Rattle.std.specs.Prelude.{◌≡◌};
 ghost use Rattle.readings.specs.Readings.{joining_number, command_number, may_follow};
 ghost use Rattle.readings.specs.Readings.{bare, directed, assigned};
@@ -13,7 +15,7 @@ pub const MOST_CELLS: usize = 1024;
 pub const NO_LAYOUT: u8 = 14;
 
 // Whether a board asked to join, and what it was told.
-#[derive(Drop)]
+#[derive(Clone, Copy)]
 pub enum Joining {
     None,
     Refused,
@@ -21,7 +23,7 @@ pub enum Joining {
 }
 
 // The command, or none: nobody answered 7Eh, or a joining was refused.
-#[derive(Drop)]
+#[derive(Clone, Copy)]
 pub enum Command {
     None,
     Assign,
@@ -33,7 +35,7 @@ pub enum Command {
 }
 
 // What a command doesn't use is 0 (false).
-#[derive(Drop)]
+#[derive(Clone, Copy)]
 pub struct Reading {
     pub joining: Joining,
     pub command: Command,

@@ -1,12 +1,14 @@
 // The rows of the table: 32 places by value, the rows in order of dynamic address, and behind them the unused places, all zero.
 //
 // Nothing here judges the rows: every function takes any 32 of them.
+#![tactic(auto)]
+
 ghost use Rattle.std.specs.Prelude.{◌≡◌};
 ghost use Rattle.rows.specs.Rows.{in_use, used, has_address, has_ticket, has_identity, has_static, holds_address, holds_static, place_of_address, place_of_ticket, place_of_identity};
 
 // A board that has an address: its dynamic address, its ticket, its identity or the mark that it is unknown (then the number is 0), and the static
 // address that it was set from, 0 if none. A place whose address is 0 is unused.
-#[derive(Drop)]
+#[derive(Clone, Copy)]
 pub struct Row {
     pub address: u8,
     pub ticket: u32,

@@ -5,7 +5,7 @@ use lines::numbers::Numbers;
 
 // What the next run is given, the numbers to compare with what the script says, whether no cell behind those written was touched, and whether
 // machine and boards kept what they had to.
-#[derive(Drop)]
+#[derive(Clone, Copy)]
 pub struct Came {
     pub setup: Setup,
     pub numbers: Numbers,

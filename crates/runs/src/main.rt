@@ -2,6 +2,8 @@
 // not stands above its group's line, with its line number and what it came to.
 //
 // The script comes from standard input; its head says what a line can be.
+#![tactic(auto)]
+
 mod came;
 mod played;
 mod same;

@@ -11,7 +11,7 @@ use lines::words;
 use lines::words::Line;
 
 // Where the script stands: what the next run is given, and the group.
-#[derive(Drop)]
+#[derive(Clone, Copy)]
 struct Standing {
     setup: Setup,
     group: Group,

@@ -8,7 +8,7 @@ use machine::Machine;
 
 // The machine; 40 boards, of which a run is lent the first `count`; the flips, which are the first `many`; and how many of 1,100 cells it is
 // lent.
-#[derive(Drop)]
+#[derive(Clone, Copy)]
 pub struct Setup {
     pub machine: Machine,
     pub boards: [Board; 40],

@@ -24,7 +24,7 @@ pub const BOARD_BYTES: usize = 8;
 const FLIPS_BYTES: usize = 64;
 
 // An entry of the table: of what kind a body is, where it begins, and how long it is.
-#[derive(Drop)]
+#[derive(Clone, Copy)]
 pub struct Entry {
     pub kind: u8,
     pub offset: usize,

@@ -1,4 +1,6 @@
 // The sheet run: a sheet says bus facts, boards and flips; a machine is started on these facts, one run is played, and its listing is written.
+#![tactic(auto)]
+
 ghost use Rattle.std.specs.Prelude.{◌≡◌, true, length};
 ghost use Rattle.lists.specs.Buffers.{lay};
 ghost use Rattle.machine.specs.Calls.{started, stepped};
@@ -19,7 +21,7 @@ pub const TOO_FEW_BYTES: u8 = 11;
 pub const SHEET_WRONG: u8 = 18;
 
 // What a sheet run hands back: the length of the listing, and its refusal, 0 for none. A refused one has length 0.
-#[derive(Drop)]
+#[derive(Clone, Copy)]
 pub struct SheetRan {
     pub length: usize,
     pub refusal: u8,

@@ -1,4 +1,6 @@
 // The 128 address slots, the bus facts, and the slot test.
+#![tactic(auto)]
+
 ghost use Rattle.std.specs.Prelude.{◌≡◌, false, length};
 ghost use Rattle.slots.specs.Slots.{class_of, facts_of, refused_facts, checked, is_legacy, legacy_right, facts_right, is_open, slot_test};
 ghost use Rattle.slots.specs.Slots.{allows};
@@ -9,7 +11,7 @@ use classes::{CLASS, CLOSED_BY_FLAG_1, NO_ADDRESS, OPEN, OPEN_WITH_FLAG_2};
 
 // What is known of a bus: the flag byte (1: an I2C high-speed device is present; 2: 03h may be used), the set of legacy I2C addresses (address a
 // is bit a % 8 of byte a / 8), and the last ticket given.
-#[derive(Drop)]
+#[derive(Clone, Copy)]
 pub struct Facts {
     pub flags: u8,
     pub legacy: [u8; 16],
@@ -17,7 +19,7 @@ pub struct Facts {
 }
 
 // Facts that keep the rules, or the facts of a refused start.
-#[derive(Drop)]
+#[derive(Clone, Copy)]
 pub struct Checked {
     pub right: bool,
     pub facts: Facts,
@@ -29,7 +31,7 @@ pub const FACTS_WRONG: u8 = 1;
 pub const OUT_OF_RANGE: u8 = 2;
 
 // What the slot test says: refusal 0, and whether the address is open; or a refusal.
-#[derive(Drop)]
+#[derive(Clone, Copy)]
 pub struct SlotAnswer {
     pub refusal: u8,
     pub open: bool,

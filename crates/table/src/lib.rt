@@ -1,4 +1,6 @@
 // The table: bus facts and rows together, its tickets, and whether it keeps the rules.
+#![tactic(auto)]
+
 ghost use Rattle.std.specs.Prelude.{◌≤◌, ◌≡◌, not, drop};
 ghost use Rattle.lists.specs.Lists.{all, pairwise, find};
 ghost use Rattle.rows.specs.Rows.{in_use};

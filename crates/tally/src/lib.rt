@@ -1,7 +1,9 @@
 // How many steps of a group came out right, for a program that holds the code to numbers from outside, and the group's line.
+#![tactic(auto)]
+
 use libc::STDOUT_FILENO;
 
-#[derive(Drop)]
+#[derive(Clone, Copy)]
 pub struct Tally {
     pub right: u32,
     pub all: u32,

@@ -2,6 +2,8 @@
 // did not stands above its group's line, with the number that it should have been.
 //
 // In the groups' names 000 is MIPI I3C Basic 1.1.1, and 01 the rack's exact rules.
+#![tactic(auto)]
+
 mod addresses;
 mod bytes;
 mod calls;

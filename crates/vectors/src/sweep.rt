@@ -1,7 +1,7 @@
 // Tests of one byte, and how many bytes of a range pass one.
 use slots::Facts;
 
-#[derive(Drop)]
+#[derive(Clone, Copy)]
 pub enum Test {
     // in the byte and its ninth bit the processor counts odd ones, and odd_ones agrees with it on the byte alone
     Ninth,

@@ -1,4 +1,6 @@
 // The writer: the cells of the one record that reads as a reading and its offers.
+#![tactic(auto)]
+
 ghost use Rattle.std.specs.Prelude.{◌≡◌, length};
 ghost use Rattle.lists.specs.Buffers.{lay};
 ghost use Rattle.writer.specs.Write.{to_write, write_answer};
@@ -12,7 +14,7 @@ use readings::{MOST_CELLS, NO_LAYOUT, Reading};
 pub const TOO_FEW_CELLS: u8 = 11;
 
 // How many cells were written, and the refusal, 0 for none; its place is 0.
-#[derive(Drop)]
+#[derive(Clone, Copy)]
 pub struct Written {
     pub count: usize,
     pub refusal: u8,

@@ -1,0 +1,15 @@
+use Prim.Native.Nat.{◌≤◌, ◌-◌}
+use mathlib.Core.Path.{◌≡◌, refl, sym, ◌∙◌}
+use mathlib.Core.List.{zip_with}
+use native.Mathlib.Omega.{arith}
+use borrow.Author.Rules.{rules}
+use lib.ListN.{length}
+use Rattle.boards.specs.Wire.{takes, after_byte}
+use Rattle.lists.proofs.Zips.{zipping, zip_turn, zip_done}
+use Rattle.boards.proofs.offer.Given as goal
+
+abbrev pub invariant-loop-i : goal.invariant-loop-i
+invariant-loop-i l = (l.i ≤ 32) × (length l.after ≡ 32) × (zipping (takes l.byte) l.still l.after l.i ≡ zip_with (takes l.byte) l.still l.initial.after)
+
+abbrev pub decreases-loop-i : goal.decreases-loop-i
+decreases-loop-i l = 32 - l.i

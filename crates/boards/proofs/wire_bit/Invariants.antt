@@ -1,0 +1,10 @@
+use Prim.Native.Nat.{◌-◌}
+use native.Mathlib.Omega.{arith}
+use Rattle.boards.proofs.Turns.{NoZero, zero_start, zero_turn, zero_found, zero_ended}
+use Rattle.boards.proofs.wire_bit.Given as goal
+
+abbrev pub invariant-loop-i : goal.invariant-loop-i
+invariant-loop-i l = NoZero l.k l.sent l.still 32 l.i
+
+abbrev pub decreases-loop-i : goal.decreases-loop-i
+decreases-loop-i l = 32 - l.i

@@ -1,0 +1,17 @@
+-- `changes::with_row` meets its contract: a loop that puts the row in and moves the rest up by one.
+use Rattle.lists.proofs.Edits.{Shifting, shift_start, shift_turn, shift_ended}
+use Rattle.rows.specs.Rows.{no_row}
+use Rattle.changes.specs.Changes.{comes_behind, with_row}
+use native.Mathlib.Omega.{arith}
+use Prim.Native.Nat.{◌-◌}
+use Rattle.changes.proofs.with_row.Goals as goal
+
+pub loop-i-init : goal.loop-i-init
+loop-i-init c = shift_start (omega arith) c.place_for-i.ensures
+
+pub loop-i-preserved : goal.loop-i-preserved
+loop-i-preserved c = search shift_turn
+
+pub returns : goal.returns
+unfolding with_row
+returns c = search shift_ended

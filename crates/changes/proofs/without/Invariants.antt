@@ -1,0 +1,13 @@
+use mathlib.Core.Path.{sym, refl}
+use Rattle.lists.proofs.Edits.{Closing, close_start, close_turn, close_ended, remove_none}
+use Rattle.rows.specs.Rows.{no_row}
+use Rattle.changes.specs.Changes.{without}
+use native.Mathlib.Omega.{arith}
+use Prim.Native.Nat.{◌-◌}
+use Rattle.changes.proofs.without.Given as goal
+
+abbrev pub invariant-loop-i : goal.invariant-loop-i
+invariant-loop-i l = Closing l.place no_row l.rows l.out 32 l.i
+
+abbrev pub decreases-loop-i : goal.decreases-loop-i
+decreases-loop-i l = 31 - l.i

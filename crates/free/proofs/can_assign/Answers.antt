@@ -1,0 +1,14 @@
+-- `free::can_assign` meets its contract.
+use Rattle.lists.proofs.Bools.{via}
+use Rattle.free.proofs.Laws.{no_room, no_ticket, can_by_address}
+use borrow.Author.Rules.{rules}
+use Rattle.free.proofs.can_assign.Goals as goal
+
+pub returns-then-full : goal.returns-then-full
+returns-then-full c = search (no_room, via)
+
+pub returns-then-f-eq-HIGHEST_TICKET : goal.returns-then-f-eq-HIGHEST_TICKET
+returns-then-f-eq-HIGHEST_TICKET c = search no_ticket
+
+pub returns : goal.returns
+returns c = search (can_by_address, via)

@@ -1,0 +1,22 @@
+-- `free::held` meets its contract: the marks tell of the rows below i.
+use Prim.Native.Nat.{◌-◌}
+use mathlib.Core.Logic.{⊎_elim}
+use native.Mathlib.Omega.{arith}
+use Rattle.free.proofs.Laws.{Marked, marks_start, marks_fits, marks_turn, marks_skip, marks_ended}
+use Rattle.free.proofs.held.Goals as goal
+
+pub loop-i-init : goal.loop-i-init
+loop-i-init c = marks_start (omega arith)
+
+pub bounds-marks-at : goal.bounds-marks-at
+bounds-marks-at c =
+    marks_fits c.args.rows c.loop-i.i c.if-here.true
+
+pub loop-i-preserved : goal.loop-i-preserved
+loop-i-preserved c =
+    let v = c.loop-i.invariant in
+    let b = c.loop-i-test.true in
+    ⊎_elim (λ w. rw w.2 (marks_turn v b w.0.taken)) (λ w. rw w.1 (marks_skip v b w.0.left)) c.if-here.branch
+
+pub returns : goal.returns
+returns c = marks_ended c.loop-i.invariant c.loop-i-test.false

@@ -1,0 +1,14 @@
+use Rattle.lists.proofs.Bools.{via, and}
+use Rattle.lists.proofs.Numbers.{First, first_start, first_turn, first_found, first_ended}
+use Rattle.free.proofs.Laws.{open_unmarked, lowest_by_marks}
+use mathlib.Core.Logic.{⊎_elim}
+use mathlib.Core.Path.{◌∙◌}
+use native.Mathlib.Omega.{arith}
+use Prim.Native.Nat.{◌-◌}
+use Rattle.free.proofs.lowest_free.Given as goal
+
+abbrev pub invariant-loop-address : goal.invariant-loop-address
+invariant-loop-address l = First (open_unmarked l.f l.marks) 128 l.address
+
+abbrev pub decreases-loop-address : goal.decreases-loop-address
+decreases-loop-address l = 128 - l.address

@@ -1,0 +1,12 @@
+use Rattle.lists.proofs.Bools.{via}
+use Rattle.lists.proofs.Loops.{Find, find_start, find_turn, find_found, find_ended}
+use Rattle.rows.specs.Rows.{has_ticket, no_row}
+use native.Mathlib.Omega.{arith}
+use Prim.Native.Nat.{◌-◌}
+use Rattle.rows.proofs.place_of_ticket.Given as goal
+
+abbrev pub invariant-loop-i : goal.invariant-loop-i
+invariant-loop-i l = Find (has_ticket l.ticket) l.rows no_row 32 l.i
+
+abbrev pub decreases-loop-i : goal.decreases-loop-i
+decreases-loop-i l = 32 - l.i

@@ -1,0 +1,8 @@
+-- `slots::is_open` meets its contract.
+use borrow.Author.Rules.{rules}
+use Rattle.slots.specs.Slots.{is_open}
+use Rattle.slots.proofs.is_open.Goals as goal
+
+pub returns : goal.returns
+unfolding is_open
+returns c = rw (c.allows.ensures, c.is_legacy.ensures, c.class_of.ensures)

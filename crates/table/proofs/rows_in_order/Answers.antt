@@ -1,0 +1,38 @@
+-- `table::rows_in_order` meets its contract: a search loop in a search loop, up to the first unused place.
+use Prim.Native.Nat.{◌+◌, ◌-◌}
+use mathlib.Core.Path.{sym}
+use lib.ListN.{drop}
+use Rattle.lists.specs.Lists.{all}
+use Rattle.lists.proofs.Bools.{via}
+use borrow.Author.Tests.{not-true, not-false}
+use Rattle.rows.specs.Rows.{no_row}
+use Rattle.lists.proofs.Loops.{All, all_start_at, all_turn, all_found, Pairs, pairs_start, pairs_found}
+use Rattle.table.specs.Sound.{in_order}
+use Rattle.table.proofs.Laws.{row_behind_unused, pairs_turn_unused, pairs_ended_unused}
+use native.Mathlib.Omega.{arith}
+use Rattle.table.proofs.rows_in_order.Goals as goal
+
+pub returns-then-not-unused_from : goal.returns-then-not-unused_from
+returns-then-not-unused_from c = search (row_behind_unused, via, not-true)
+
+pub loop-i-init : goal.loop-i-init
+loop-i-init c = pairs_start (omega arith)
+
+pub loop-j-init : goal.loop-j-init
+loop-j-init c = all_start_at _ (omega arith) (omega arith)
+
+pub returns-then-not-in_order : goal.returns-then-not-in_order
+returns-then-not-in_order c =
+    pairs_found c.loop-i.invariant (omega arith)
+    (sym (all_found c.loop-j.invariant (omega arith) (search (via, not-true))))
+
+pub loop-j-preserved : goal.loop-j-preserved
+loop-j-preserved c = all_turn c.loop-j.invariant (omega arith) (search (via, not-false))
+
+pub loop-i-preserved : goal.loop-i-preserved
+loop-i-preserved c =
+    pairs_turn_unused c.loop-i.invariant (omega arith)
+    c.loop-j.invariant c.loop-j-test.false (search (via, not-false))
+
+pub returns : goal.returns
+returns c = search (pairs_ended_unused, via, not-false)
