@@ -1,23 +1,10 @@
 -- `listing::put_end` meets its contract: its parts are put one behind the other.
 use mathlib.Core.Path.{refl}
 use native.Mathlib.Omega.{arith}
-use borrow.Author.Rules.{rules}
 use Rattle.listing.specs.Text.{text, decimal}
 use Rattle.listing.specs.Listing.{end_line}
 use Rattle.listing.proofs.Lines.{end_long, put_on, put_last, put_all}
 use Rattle.listing.proofs.put_end.Goals as goal
-
--- TODO slice-aggregate-put : tie.Need-slice-aggregate-put
--- slice-aggregate-put c = search rules
-
--- TODO slice-aggregate-put-2 : tie.Need-slice-aggregate-put-2
--- slice-aggregate-put-2 c = search rules
-
--- TODO slice-aggregate-put-3 : tie.Need-slice-aggregate-put-3
--- slice-aggregate-put-3 c = search rules
-
--- TODO slice-aggregate-put-4 : tie.Need-slice-aggregate-put-4
--- slice-aggregate-put-4 c = search rules
 
 pub put-end-requires : goal.put-end-requires
 put-end-requires c =
@@ -52,17 +39,19 @@ put_decimal-summed-requires c =
 pub put-requires : goal.put-requires
 put-requires c =
     let a = c.args in
-    omega (arith, c.before, end_long a.ending a.rounds a.clocks)
+    omega (arith, end_long a.ending a.rounds a.clocks)
 
 pub returns : goal.returns
 unfolding end_line
 returns c =
     let a = c.args in
+    let t =
     put_all a.at (end_line a.ending a.rounds a.clocks) a.out.now c.requires
-    (put_on (text "c.before ") refl c.put-end.ensures
-    (put_on (decimal 20 a.ending) refl c.put_decimal-ended.ensures
-    (put_on (text " rounds ") refl c.put-round.ensures
-    (put_on (decimal 20 a.rounds) refl c.put_decimal-counted.ensures
-    (put_on (text " clocks ") refl c.put-clock.ensures
-    (put_on (decimal 20 a.clocks) refl c.put_decimal-summed.ensures
-    (put_last c.put.ensures)))))))
+    (put_on (text "end ") refl (c.put-end.ensures.value, c.put-end.ensures.out_after)
+    (put_on (decimal 20 a.ending) refl (c.put_decimal-ended.ensures.value, c.put_decimal-ended.ensures.out_after)
+    (put_on (text " rounds ") refl (c.put-round.ensures.value, c.put-round.ensures.out_after)
+    (put_on (decimal 20 a.rounds) refl (c.put_decimal-counted.ensures.value, c.put_decimal-counted.ensures.out_after)
+    (put_on (text " clocks ") refl (c.put-clock.ensures.value, c.put-clock.ensures.out_after)
+    (put_on (decimal 20 a.clocks) refl (c.put_decimal-summed.ensures.value, c.put_decimal-summed.ensures.out_after)
+    (put_last (c.put.ensures.value, c.put.ensures.out_after)))))))) in
+    record { value = t.0; out_after = t.1 }

@@ -3,9 +3,6 @@ use borrow.Author.Rules.{rules}
 use Rattle.listing.specs.Listing.{header}
 use Rattle.listing.proofs.put_header.Goals as goal
 
--- TODO slice-aggregate-put : tie.Need-slice-aggregate-put
--- slice-aggregate-put c = search rules
-
 pub put-requires : goal.put-requires
 unfolding header
 put-requires c = search rules

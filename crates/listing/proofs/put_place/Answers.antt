@@ -1,12 +1,15 @@
 -- `listing::put_place` meets its contract.
-use borrow.Author.Rules.{rules}
-use Rattle.listing.proofs.Lines.{rest_all, rest_none, place_unused, place_used}
+use mathlib.Core.Path.{sym}
+use native.Mathlib.Omega.{arith}
+use lib.ListN.{take-append-drop}
+use Rattle.listing.proofs.Lines.{place_unused, place_used}
 use Rattle.listing.proofs.put_place.Goals as goal
 
 pub returns-then-row-eq0 : goal.returns-then-row-eq0
 returns-then-row-eq0 c =
     let a = c.args in
-    rw (place_unused a.row c.if-row-eq0.true) (rest_none (rest_all (search rules)))
+    let e = place_unused a.row c.if-row-eq0.true in
+    record { value = rw e (omega arith); out_after = rw e (sym (take-append-drop a.at a.out.now)) }
 
 pub put_row-requires : goal.put_row-requires
 put_row-requires c =
@@ -15,4 +18,5 @@ put_row-requires c =
 
 pub returns : goal.returns
 returns c =
-    rw (place_used c.args.row c.if-row-eq0.false) c.put_row.ensures
+    let e = place_used c.args.row c.if-row-eq0.false in
+    record { value = rw e c.put_row.ensures.value; out_after = rw e c.put_row.ensures.out_after }

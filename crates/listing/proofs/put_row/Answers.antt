@@ -8,15 +8,6 @@ use Rattle.listing.proofs.Digits.{hex_long, ticket_digits}
 use Rattle.listing.proofs.Lines.{row_digits, put_on, put_last, put_all}
 use Rattle.listing.proofs.put_row.Goals as goal
 
--- TODO slice-aggregate-put : tie.Need-slice-aggregate-put
--- slice-aggregate-put c = search rules
-
--- TODO slice-aggregate-put-2 : tie.Need-slice-aggregate-put-2
--- slice-aggregate-put-2 c = search rules
-
--- TODO slice-aggregate-put-3 : tie.Need-slice-aggregate-put-3
--- slice-aggregate-put-3 c = search rules
-
 pub put_hex-address-requires : goal.put_hex-address-requires
 put_hex-address-requires c =
     omega (arith, row_digits c.args.row (search rules))
@@ -46,10 +37,13 @@ unfolding row_line
 returns c =
     let a = c.args in
     let r = a.row in
+    let d = ticket_digits r.ticket (search rules) in
+    let t =
     put_all a.at (row_line r) a.out.now c.requires
-    (put_on (hex 2 r.address) (hex_long 2 r.address) c.put_hex-address.ensures
-    (put_on (text " ") refl c.put-space.ensures
-    (put_on (decimal 10 r.ticket) refl (rw (ticket_digits r.ticket (omega (arith, c.well-formed))) at c.put_decimal-ticket.ensures)
-    (put_on (text " ") refl c.put-again.ensures
-    (put_on (hex 16 r.identity) (hex_long 16 r.identity) c.put_hex-identity.ensures
-    (put_last c.put.ensures))))))
+    (put_on (hex 2 r.address) (hex_long 2 r.address) (c.put_hex-address.ensures.value, c.put_hex-address.ensures.out_after)
+    (put_on (text " ") refl (c.put-space.ensures.value, c.put-space.ensures.out_after)
+    (put_on (decimal 10 r.ticket) refl (rw d at c.put_decimal-ticket.ensures.value, rw d at c.put_decimal-ticket.ensures.out_after)
+    (put_on (text " ") refl (c.put-again.ensures.value, c.put-again.ensures.out_after)
+    (put_on (hex 16 r.identity) (hex_long 16 r.identity) (c.put_hex-identity.ensures.value, c.put_hex-identity.ensures.out_after)
+    (put_last (c.put.ensures.value, c.put.ensures.out_after))))))) in
+    record { value = t.0; out_after = t.1 }

@@ -1,7 +1,6 @@
 -- `listing::put_rows` meets its contract: a loop over the places.
-use Prim.Native.Nat.{◌-◌}
 use native.Mathlib.Omega.{arith}
-use Rattle.listing.proofs.Lines.{Listed, listed_start, listed_room, listed_turn, listed_ended}
+use Rattle.listing.proofs.Lines.{listed_start, listed_room, listed_turn, listed_ended}
 use Rattle.listing.proofs.put_rows.Goals as goal
 
 pub loop-i-init : goal.loop-i-init
@@ -17,4 +16,4 @@ pub shape_of-out : goal.shape_of-out
 shape_of-out c = c.loop-i.invariant.rest.wide
 
 pub returns : goal.returns
-returns c = listed_ended c.loop-i.invariant (omega arith)
+returns c = let t = listed_ended c.loop-i.invariant (omega arith) in record { value = t.0; out_after = t.1 }

@@ -1,6 +1,5 @@
 use Prim.Native.Nat.{◌-◌}
-use native.Mathlib.Omega.{arith}
-use Rattle.listing.proofs.Lines.{Listed, listed_start, listed_room, listed_turn, listed_ended}
+use Rattle.listing.proofs.Lines.{Listed}
 use Rattle.listing.proofs.put_rows.Given as goal
 
 abbrev pub invariant-loop-i : goal.invariant-loop-i

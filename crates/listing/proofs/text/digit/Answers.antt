@@ -1,5 +1,4 @@
 -- `listing::text::digit` meets its contract.
-use borrow.Author.Rules.{rules}
 use borrow.Author.Tests.{lt-ltb, le-ltb}
 use Rattle.listing.proofs.text.digit.Goals as goal
 

@@ -1,9 +1,7 @@
 -- `listing::text::put` meets its contract: a loop that copies.
-use Prim.Native.Nat.{◌-◌}
 use mathlib.Core.Path.{refl}
 use native.Mathlib.Omega.{arith}
-use lib.ListN.{length}
-use Rattle.listing.proofs.Digits.{Standing, standing_start, standing_length, standing_turn, standing_ended}
+use Rattle.listing.proofs.Digits.{standing_start, standing_length, standing_turn, standing_ended}
 use Rattle.listing.proofs.text.put.Goals as goal
 
 pub loop-i-init : goal.loop-i-init

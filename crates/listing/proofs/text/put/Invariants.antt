@@ -1,8 +1,6 @@
 use Prim.Native.Nat.{◌-◌}
-use mathlib.Core.Path.{refl}
-use native.Mathlib.Omega.{arith}
 use lib.ListN.{length}
-use Rattle.listing.proofs.Digits.{Standing, standing_start, standing_length, standing_turn, standing_ended}
+use Rattle.listing.proofs.Digits.{Standing}
 use Rattle.listing.proofs.text.put.Given as goal
 
 abbrev pub invariant-loop-i : goal.invariant-loop-i

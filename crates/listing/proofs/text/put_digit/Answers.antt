@@ -6,4 +6,6 @@ use Rattle.lists.proofs.Buffers.{lay_at_sets}
 use Rattle.listing.proofs.text.put_digit.Goals as goal
 
 pub returns : goal.returns
-returns c = let a = c.args in (refl, rw c.digit.ensures (lay_at_sets a.at (_ ∷ []) a.out.now (search rules)))
+returns c =
+    let a = c.args in
+    record { value = refl; out_after = rw c.digit.ensures (lay_at_sets a.at (_ ∷ []) a.out.now (search rules)) }
