@@ -2,24 +2,24 @@
 use Prim.Native.Nat.{◌<◌, ◌+◌, ◌-◌, ◌*◌, ◌^◌}
 use mathlib.Core.Path.{◌≡◌, ◌∙◌}
 use mathlib.Core.List.{map}
-use mathlib.Core.Logic.{⊎_elim}
 use native.Mathlib.Omega.{arith}
 use borrow.Author.Rules.{rules}
 use Rattle.boards.specs.Wire.{board_of, stay_in}
 use Rattle.boards.proofs.Turns.{Hearing, hearing_start, hearing_stay, hearing_room, hearing_turn, hearing_ended, hear_identities}
 use Rattle.boards.proofs.listen.Goals as goal
+use Rattle.boards.proofs.listen.Goals.{then-seen-eq0, else-seen-eq0}
 
 -- who is kept is who stays in
-stay : (c : goal.Joined-seen-eq0 invariant-loop decreases-loop) →
-    c.if-seen-eq0.auto ≡ stay_in (c.loop-k.k - 1) c.wire_bit-seen.result (map board_of c.identities-sent.result) c.loop-k.auto
+stay : (c : goal.Joined-seen-eq0)
+    → c.if-seen-eq0.kept ≡ stay_in (c.loop-k.k - 1) c.wire_bit-seen.result (map board_of c.identities-sent.result) c.loop-k.kept
 stay c =
-    ⊎_elim
-    (λ w. w.4 ∙ rw w.0.taken w.3.ensures)
-    (λ w. w.1 ∙ hearing_stay c.loop-k.invariant _ c.wire_bit-seen.ensures w.0.left)
-    c.if-seen-eq0.branch
+    elim c.if-seen-eq0.branch [
+      | then-seen-eq0 w ↦ w.kept-is ∙ rw w.if-seen-eq0.true w.stay_in.ensures
+      | else-seen-eq0 w ↦ w.kept-is ∙ hearing_stay c.loop-k.invariant _ c.wire_bit-seen.ensures w.if-seen-eq0.false
+    ]
 
 -- there is room for one bit more
-room : (c : goal.Joined-seen-eq0 invariant-loop decreases-loop) → c.loop-k.heard * 2 + c.wire_bit-seen.result < 2 ^ 64
+room : (c : goal.Joined-seen-eq0) → c.loop-k.heard * 2 + c.wire_bit-seen.result < 2 ^ 64
 room c = (hearing_room c.loop-k.invariant (omega arith) _ c.wire_bit-seen.ensures).1
 
 pub loop-k-init : goal.loop-k-init

@@ -1,9 +1,9 @@
 -- `boards::stay_in` meets its contract: a walk over the flags.
 use Prim.Native.Nat.{◌-◌}
-use mathlib.Core.Logic.{⊎_elim}
 use native.Mathlib.Omega.{arith}
 use Rattle.boards.proofs.Turns.{Settled, settled_start, settled_leaves, settled_stays, settled_ended}
 use Rattle.boards.proofs.stay_in.Goals as goal
+use Rattle.boards.proofs.stay_in.Goals.{then-sent-i-eq1, else-sent-i-eq1}
 
 pub loop-i-init : goal.loop-i-init
 loop-i-init c = settled_start (omega arith) (omega arith)
@@ -11,10 +11,10 @@ loop-i-init c = settled_start (omega arith) (omega arith)
 pub loop-i-preserved : goal.loop-i-preserved
 loop-i-preserved c =
     let v = c.loop-i.invariant in
-    ⊎_elim
-    (λ w. rw w.1 (settled_leaves v (omega arith) _ w.0.taken))
-    (λ w. rw w.1 (settled_stays v (omega arith) _ w.0.left))
-    c.if-sent-i-eq1.branch
+    elim c.if-sent-i-eq1.branch [
+      | then-sent-i-eq1 w ↦ rw w.kept-is (settled_leaves v (omega arith) _ w.if-sent-i-eq1.true)
+      | else-sent-i-eq1 w ↦ rw w.kept-is (settled_stays v (omega arith) _ w.if-sent-i-eq1.false)
+    ]
 
 pub returns : goal.returns
 returns c = settled_ended c.loop-i.invariant (omega arith)

@@ -1,9 +1,9 @@
 -- `free::held` meets its contract: the marks tell of the rows below i.
 use Prim.Native.Nat.{◌-◌}
-use mathlib.Core.Logic.{⊎_elim}
 use native.Mathlib.Omega.{arith}
 use Rattle.free.proofs.Laws.{Marked, marks_start, marks_fits, marks_turn, marks_skip, marks_ended}
 use Rattle.free.proofs.held.Goals as goal
+use Rattle.free.proofs.held.Goals.{then-here, else-here}
 
 pub loop-i-init : goal.loop-i-init
 loop-i-init c = marks_start (omega arith)
@@ -16,7 +16,7 @@ pub loop-i-preserved : goal.loop-i-preserved
 loop-i-preserved c =
     let v = c.loop-i.invariant in
     let b = c.loop-i-test.true in
-    ⊎_elim (λ w. rw w.2 (marks_turn v b w.0.taken)) (λ w. rw w.1 (marks_skip v b w.0.left)) c.if-here.branch
+    elim c.if-here.branch [ then-here w ↦ rw w.marks-is (marks_turn v b w.if-here.true) | else-here w ↦ rw w.marks-is (marks_skip v b w.if-here.false) ]
 
 pub returns : goal.returns
 returns c = marks_ended c.loop-i.invariant c.loop-i-test.false

@@ -1,0 +1,29 @@
+-- `begins::set_refusal` meets its contract.
+use Rattle.lists.proofs.Bools.{chain}
+use Rattle.begins.specs.Begins.{set_refusal}
+use borrow.Author.Rules.{rules}
+use Rattle.begins.proofs.set_refusal.Goals as goal
+
+pub returns-then-set_out_of_range : goal.returns-then-set_out_of_range
+unfolding set_refusal
+returns-then-set_out_of_range c = search chain
+
+pub returns-then-set_not_open : goal.returns-then-set_not_open
+unfolding set_refusal
+returns-then-set_not_open c = search chain
+
+pub returns-then-set_held : goal.returns-then-set_held
+unfolding set_refusal
+returns-then-set_held c = search chain
+
+pub returns-then-full : goal.returns-then-full
+unfolding set_refusal
+returns-then-full c = search chain
+
+pub returns-then-f-eq-HIGHEST_TICKET : goal.returns-then-f-eq-HIGHEST_TICKET
+unfolding set_refusal
+returns-then-f-eq-HIGHEST_TICKET c = search chain
+
+pub returns : goal.returns
+unfolding set_refusal
+returns c = search chain depth 6

@@ -1,0 +1,23 @@
+-- `machine::moments::moment_right` meets its contract: one rule for each moment.
+use Rattle.lists.proofs.Bools.{same}
+use Rattle.machine.proofs.Laws.{moment_at}
+use borrow.Author.Rules.{rules}
+use Rattle.machine.proofs.moments.moment_right.Goals as goal
+
+pub returns-in-Idle : goal.returns-in-Idle
+returns-in-Idle c = search (moment_at, same) depth 9
+
+pub returns-in-Opened : goal.returns-in-Opened
+returns-in-Opened c = search (moment_at, same) depth 9
+
+pub returns-in-Round : goal.returns-in-Round
+returns-in-Round c = search (moment_at, same) depth 9
+
+pub returns-in-Listening : goal.returns-in-Listening
+returns-in-Listening c = search (moment_at, same) depth 9
+
+pub returns-in-Offered : goal.returns-in-Offered
+returns-in-Offered c = search (moment_at, same) depth 9
+
+pub returns-in-Direct : goal.returns-in-Direct
+returns-in-Direct c = search (moment_at, same) depth 9

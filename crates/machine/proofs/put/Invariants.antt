@@ -1,0 +1,10 @@
+use Rattle.lists.proofs.Edits.{Copied, copy_start, copy_turn, copy_length, copy_ended}
+use native.Mathlib.Omega.{arith}
+use Prim.Native.Nat.{◌-◌}
+use Rattle.machine.proofs.put.Given as goal
+
+abbrev pub invariant-loop-i : goal.invariant-loop-i
+invariant-loop-i l = Copied l.out l.initial.cells l.cells l.count l.i
+
+abbrev pub decreases-loop-i : goal.decreases-loop-i
+decreases-loop-i l = l.count - l.i

@@ -1,0 +1,13 @@
+-- `machine::refusals::rest_refusal` meets its contract.
+use Rattle.machine.proofs.Laws.{rest_broken, rest_moving, rest_resting}
+use borrow.Author.Rules.{rules}
+use Rattle.machine.proofs.refusals.rest_refusal.Goals as goal
+
+pub returns-then-not-machine_right : goal.returns-then-not-machine_right
+returns-then-not-machine_right c = search rest_broken
+
+pub returns-then-not-is_idle : goal.returns-then-not-is_idle
+returns-then-not-is_idle c = search rest_moving
+
+pub returns : goal.returns
+returns c = search rest_resting

@@ -1,0 +1,17 @@
+-- `machine::refusals::step_refusal` meets its contract.
+use Rattle.lists.proofs.Bools.{chain}
+use Rattle.machine.specs.Refusals.{step_refusal}
+use borrow.Author.Rules.{rules}
+use Rattle.machine.proofs.refusals.step_refusal.Goals as goal
+
+pub returns-then-room-lt8 : goal.returns-then-room-lt8
+unfolding step_refusal
+returns-then-room-lt8 c = search chain
+
+pub returns-then-not-machine_right : goal.returns-then-not-machine_right
+unfolding step_refusal
+returns-then-not-machine_right c = search chain
+
+pub returns : goal.returns
+unfolding step_refusal
+returns c = search chain

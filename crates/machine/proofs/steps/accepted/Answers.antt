@@ -1,0 +1,19 @@
+-- `machine::steps::accepted` meets its contract.
+use Rattle.machine.specs.Steps.{round_rule}
+use Rattle.machine.specs.Steps.{accepted}
+use borrow.Author.Rules.{rules}
+use Rattle.machine.proofs.steps.accepted.Goals as goal
+
+pub returns : goal.returns
+unfolding accepted round_rule
+returns c =
+    rw (
+      c.two.ensures,
+      c.onward_cell.ensures,
+      c.onward_machine.ensures,
+      c.answer_cell-cell.ensures,
+      c.offered_byte.ensures,
+      c.can_assign-on.ensures,
+      c.accepted_rows-rows.ensures,
+      c.ticketed-f.ensures,
+    )

@@ -1,0 +1,12 @@
+-- `machine::steps::opened_answer` meets its contract.
+use Rattle.machine.specs.Steps.{opened_answer}
+use borrow.Author.Rules.{rules}
+use Rattle.machine.proofs.steps.opened_answer.Goals as goal
+
+pub returns-then-heard : goal.returns-then-heard
+unfolding opened_answer
+returns-then-heard c = rw (c.if-heard.true, c.commanded.ensures)
+
+pub returns-else-heard : goal.returns-else-heard
+unfolding opened_answer
+returns-else-heard c = rw (c.if-heard.false, c.two.ensures, c.idle.ensures)
