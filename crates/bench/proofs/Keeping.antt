@@ -106,7 +106,7 @@ any_board_lem count boards few long =
     (λ h. lt-ltb 0 count (omega (arith, eqb-false count 0 (not-true (eqb count 0) h)))))
 
 module _ (m : Machine) (boards : List Board) (count : ℕ) (buffer : List ℕ) {b : Stepped} {stand : List ℕ}
-    (begins : b ≡ stepped (begun m 0 0 0 0 (length buffer))) (wrote : stand ≡ written (begun m 0 0 0 0 (length buffer)) buffer) where
+    (opens : b ≡ stepped (begun m 0 0 0 0 (length buffer))) (wrote : stand ≡ written (begun m 0 0 0 0 (length buffer)) buffer) where
   begun_kept : Keeps (drop count boards) buffer (record { machine = b.machine; boards = boards; at = b.count; rounds = 0; ending = 0 }) stand
       (begins (length buffer) m (take count boards))
   begun_kept =
@@ -117,9 +117,9 @@ module _ (m : Machine) (boards : List Board) (count : ℕ) (buffer : List ℕ) {
       (record { machine = s.machine; boards = take count boards; cells = s.cells; rounds = []; ending = 0 }))
       (sym (sub-zero (length buffer)))
       (record {
-        machine = ap (λ (t : Stepped). t.machine) begins;
+        machine = ap (λ (t : Stepped). t.machine) opens;
         boards = sym (take-append-drop count boards);
-        at = ap (λ (t : Stepped). t.count) begins;
+        at = ap (λ (t : Stepped). t.count) opens;
         fits = (begun_fits m (length buffer) 0 0 0 0).1;
         cells = wrote;
         rounds = refl;
@@ -200,13 +200,13 @@ module _ {behind : List Board} {buffer : List ℕ} {kept : Played} {stand : List
 
 module _ {behind : List Board} {buffer : List ℕ} {kept : Played} {stand : List ℕ} {p : Play} (k : Keeps behind buffer kept stand p)
     (count flip : ℕ) (many : length p.boards ≡ count) (places : length kept.boards ≡ 32)
-    {still : List Bool} (waits : still ≡ waiting_first count kept.boards) {heard : Bool} (answers-it : heard ≡ anyone still)
+    {still : List Bool} (stand_by : still ≡ waiting_first count kept.boards) {heard : Bool} (answers-it : heard ≡ anyone still)
     {a : Stepped} {stand₁ : List ℕ}
     (handed : a ≡ stepped (answered kept.machine heard (length stand - kept.at)))
     (left : stand₁ ≡ lay_at kept.at (answered kept.machine heard (length stand - kept.at)).cells stand) where
   -- who is in, with nobody behind them
   in_round : still ≡ waiting p.boards ++ replicate (length behind) false
-  in_round = waits ∙ ap (waiting_first count) k.boards ∙ waiting-first count p.boards behind many (ap length (sym k.boards) ∙ places)
+  in_round = stand_by ∙ ap (waiting_first count) k.boards ∙ waiting-first count p.boards behind many (ap length (sym k.boards) ∙ places)
 
   heard_it : heard ≡ anyone (waiting p.boards)
   heard_it = answers-it ∙ ap anyone in_round ∙ anyone_behind (waiting p.boards) (length behind)

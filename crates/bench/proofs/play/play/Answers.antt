@@ -1,0 +1,47 @@
+-- `bench::play::play` meets its contract: a loop that plays rounds until the machine is idle.
+use Prim.Native.Nat.{◌-◌}
+use mathlib.Core.Path.{◌≡◌}
+use lib.ListN.{length}
+use Rattle.bench.proofs.Playing.{Playing, playing_start, playing_turn, played_long, may_play, played_idle, played_all}
+use borrow.Author.Rules.{rules}
+use Rattle.bench.proofs.play.play.Goals as goal
+
+pub loop-i-init : goal.loop-i-init
+loop-i-init c = playing_start _ _ _ _
+
+pub shape_of-cells-then-is_idle : goal.shape_of-cells-then-is_idle
+shape_of-cells-then-is_idle c =
+    let a = c.args in
+    let long : length a.boards ≡ 32 = search rules in
+    played_long a.machine a.boards c.requires long c.opened-p.ensures c.loop-i.invariant
+
+pub returns-then-is_idle : goal.returns-then-is_idle
+returns-then-is_idle c =
+    let a = c.args in
+    let long : length a.boards ≡ 32 = search rules in
+    played_idle a.machine a.boards c.requires long c.opened-p.ensures c.loop-i.invariant
+    c.loop-i-test.true c.is_idle.ensures c.if-is_idle.true
+
+pub round-next-requires : goal.round-next-requires
+round-next-requires c =
+    let a = c.args in
+    let long : length a.boards ≡ 32 = search rules in
+    may_play a.machine a.boards c.requires long c.opened-p.ensures c.loop-i.invariant
+    c.loop-i-test.true
+
+pub loop-i-preserved : goal.loop-i-preserved
+loop-i-preserved c =
+    playing_turn c.loop-i.invariant c.loop-i-test.true c.is_idle.ensures c.if-is_idle.false c.flip_at-flip.ensures
+    c.round-next.ensures
+
+pub shape_of-cells : goal.shape_of-cells
+shape_of-cells c =
+    let a = c.args in
+    let long : length a.boards ≡ 32 = search rules in
+    played_long a.machine a.boards c.requires long c.opened-p.ensures c.loop-i.invariant
+
+pub returns : goal.returns
+returns c =
+    let a = c.args in
+    let long : length a.boards ≡ 32 = search rules in
+    played_all a.machine a.boards c.requires long c.opened-p.ensures c.loop-i.invariant c.loop-i-test.false
