@@ -33,8 +33,8 @@ identity_back byte h = omega (arith, leb-true byte 255 h)
 
 -- an address with a 0 below, and any ninth bit
 module _ (address ninth : ℕ) (a : address ≤ 127) (n : ninth ≤ 1) where
-  write_byte : byte_of (cell (write_byte address) ninth) ≡ write_byte address
-  write_byte = pair_byte (write_byte address) ninth (omega arith) n
+  write_byte_lem : byte_of (cell (write_byte address) ninth) ≡ write_byte address
+  write_byte_lem = pair_byte (write_byte address) ninth (omega arith) n
 
   pub write_ninth : ninth_of (cell (write_byte address) ninth) ≡ ninth
   write_ninth = pair_ninth (write_byte address) ninth (omega arith) n
@@ -43,10 +43,10 @@ module _ (address ninth : ℕ) (a : address ≤ 127) (n : ninth ≤ 1) where
   unfolding is_write_byte
   write_taken =
       let even : write_byte address % 2 ≡ 0 = omega arith in
-      rw write_byte (and (pair_is_byte (write_byte address) ninth (omega arith) n) (eq-eqb (write_byte address % 2) 0 even))
+      rw write_byte_lem (and (pair_is_byte (write_byte address) ninth (omega arith) n) (eq-eqb (write_byte address % 2) 0 even))
 
   pub write_address : address_in (cell (write_byte address) ninth) ≡ address
-  write_address = rw write_byte (omega arith)
+  write_address = rw write_byte_lem (omega arith)
 
 -- a new address
 pub new_taken : (address : ℕ) → address ≤ 127 → is_new_address (data_cell (write_byte address)) ≡ true
@@ -54,7 +54,7 @@ unfolding is_new_address
 new_taken address a =
     let ninth : ℕ = odd_bit 8 (write_byte address) in
     let n : ninth ≤ 1 = omega (arith, odd_bit_lt 8 (write_byte address)) in
-    let same : data_cell (byte_of (data_cell (write_byte address))) ≡ data_cell (write_byte address) = ap data_cell (write_byte address ninth a n) in
+    let same : data_cell (byte_of (data_cell (write_byte address))) ≡ data_cell (write_byte address) = ap data_cell (write_byte_lem address ninth a n) in
     and (write_taken address ninth a n) (eq-eqb (data_cell (byte_of (data_cell (write_byte address)))) (data_cell (write_byte address)) same)
 
 pub new_back : (address : ℕ) → address ≤ 127 → address_in (data_cell (write_byte address)) ≡ address
