@@ -45,7 +45,8 @@ pub fn load(boards: &[Board], mut places: [Board; 32], n: usize) -> [Board; 32]
 {
     let mut i = 0;
     while i < n {
-        places = with_board(places, i, boards[i]);
+        let next = with_board(places, i, boards[i]);
+        places = next;
         i += 1;
     }
     places
