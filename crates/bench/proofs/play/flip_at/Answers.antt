@@ -2,7 +2,6 @@
 use mathlib.Core.Path.{sym}
 use lib.ListN.{get_or-eq_default}
 use Rattle.lists.proofs.Lists.{get_d_any}
-use borrow.Author.Rules.{rules}
 use Rattle.bench.proofs.play.flip_at.Goals as goal
 
 pub returns-then-i-flips : goal.returns-then-i-flips
