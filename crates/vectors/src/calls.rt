@@ -32,9 +32,9 @@ fn nobody(out: &mut impl Write, t: Tally) -> io::Result<Tally> {
 
 pub fn numbers(out: &mut impl Write) -> io::Result<()> {
     let mut t = Tally::new();
-    t = t.number(1, assign_refusal(1, [0; 16], 0), 0);
+    t = t.number(out, 1, assign_refusal(1, [0; 16], 0), 0)?;
     t = t.number(out, 1, assign_refusal(1, every_device(), 0), 6)?;
-    t = t.number(1, assign_refusal(1, [0; 16], 4294967295), 7);
+    t = t.number(out, 1, assign_refusal(1, [0; 16], 4294967295), 7)?;
     nobody(out, t)?.report(
         out,
         b"refusals of an assign, and a bus with no boards, by the machine's calls (01)",
