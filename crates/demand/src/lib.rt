@@ -3,4 +3,3 @@
 // identities rise; the rounds are few; the machine is idle and sound afterwards; and the record is read with exactly these offers. The
 // same is stated of what `bench::run` hands back, and of boards lent as one list (`lent::run`). It has no code.
 #![tactic(auto)]
-
