@@ -2,6 +2,8 @@
 use crate::desk::Desk;
 use lines::groups::Group;
 use lines::numbers::Numbers;
+use std::io;
+use std::io::Write;
 
 // The desk, the numbers to compare with what the script says, whether all that had to stay is as it was, and whether the writer gave back the
 // record that was read.
@@ -24,13 +26,18 @@ pub fn seen(desk: Desk, numbers: Numbers) -> Came {
 }
 
 // Compares it with what the script says, and counts it in the group.
-pub fn compared(came: Came, said: Numbers, group: Group) -> Group {
+pub fn compared(
+    out: &mut impl Write,
+    came: Came,
+    said: Numbers,
+    group: Group,
+) -> io::Result<Group> {
     let numbers = came.numbers;
     if !came.untouched {
-        return group.compared(numbers, said, b", and touched what had to stay");
+        return group.compared(out, numbers, said, b", and touched what had to stay");
     }
     if !came.echoed {
-        return group.compared(numbers, said, b", and was not written back");
+        return group.compared(out, numbers, said, b", and was not written back");
     }
-    group.compared(numbers, said, b"")
+    group.compared(out, numbers, said, b"")
 }

@@ -9,6 +9,8 @@ use lines::numbers::{Numbers, size};
 use lines::text::line_end;
 use lines::words;
 use lines::words::Line;
+use std::io;
+use std::io::Write;
 
 // Where the script stands: the desk, and the group.
 #[derive(Clone, Copy)]
@@ -25,43 +27,49 @@ fn begun(group: Group) -> Standing {
     }
 }
 
-// Plays a script and prints what its groups came to.
-pub fn play(text: &[u8]) {
+// Plays a script and writes what its groups came to.
+pub fn play(out: &mut impl Write, text: &[u8]) -> io::Result<()> {
     let mut s = begun(Group::new());
     let mut from: usize = 0;
     while from < text.len() {
         let to = line_end(text, from);
-        let next = play_line(s, text, from, to);
+        let next = play_line(out, s, text, from, to)?;
         s = next;
         from = to + 1;
     }
-    s.group.report(text);
+    s.group.report(out, text)
 }
 
 // Plays the line that stands in the text from one place to another.
-fn play_line(s: Standing, text: &[u8], from: usize, to: usize) -> Standing
+fn play_line(
+    out: &mut impl Write,
+    s: Standing,
+    text: &[u8],
+    from: usize,
+    to: usize,
+) -> io::Result<Standing>
     requires { (from ≤ to) × (to ≤ length text.now) }
 {
     let line = words::read(&text[from..to]);
     let letter = line.letter;
-    let group = s.group.at_line(text, from, to, letter);
+    let group = s.group.at_line(out, text, from, to, letter)?;
     let mut next = s;
     next.group = group;
     match letter {
-        b'g' => begun(group),
-        0 => next,
-        _ => step(next, line),
+        b'g' => Ok(begun(group)),
+        0 => Ok(next),
+        _ => step(out, next, line),
     }
 }
 
 // Plays a line that has a letter, and compares what it came to, if it comes to something.
-fn step(s: Standing, line: Line) -> Standing {
+fn step(out: &mut impl Write, s: Standing, line: Line) -> io::Result<Standing> {
     let mut next = s;
     let desk = s.desk;
     let letter = line.letter;
     let given = line.given;
     if !shapes::right(line) {
-        let group = s.group.cannot_be_read();
+        let group = s.group.cannot_be_read(out)?;
         next.group = group;
     } else if !shapes::comes_to_something(letter) {
         let changed = desk.changed(letter, given);
@@ -70,10 +78,10 @@ fn step(s: Standing, line: Line) -> Standing {
         let came = play_step(desk, letter, given);
         let after = came.desk;
         next.desk = after;
-        let group = came::compared(came, shapes::said(line), s.group);
+        let group = came::compared(out, came, shapes::said(line), s.group)?;
         next.group = group;
     }
-    next
+    Ok(next)
 }
 
 // What a line comes to, by its letter.

@@ -1,6 +1,7 @@
 // A group of a script's lines, and how many of its steps came out right.
 use crate::numbers::Numbers;
-use libc::STDOUT_FILENO;
+use std::io;
+use std::io::Write;
 use tally::{Tally, one_more};
 
 // The number of the line that is played, the tally of its group, and where the group's name stands in the text, from and to.
@@ -24,35 +25,47 @@ impl Group {
     }
 
     // The group at the next line, which stands in the text from one place to another: a line `group` begins a new one, and what this one came to
-    // is printed.
-    pub fn at_line(self, text: &[u8], from: usize, to: usize, letter: u8) -> Group {
+    // is written.
+    pub fn at_line(
+        self,
+        out: &mut impl Write,
+        text: &[u8],
+        from: usize,
+        to: usize,
+        letter: u8,
+    ) -> io::Result<Group> {
         let number = one_more(self.number);
         if letter == b'g' {
-            self.report(text);
-            return Group {
+            self.report(out, text)?;
+            return Ok(Group {
                 number,
                 tally: Tally::new(),
                 from: name_start(from, to),
                 to,
-            };
+            });
         }
         let mut next = self;
         next.number = number;
-        next
+        Ok(next)
     }
 
-    // A step came to these numbers, where the script says others or the same; it is right if they are the same and it has no flaw. A wrong one is printed,
+    // A step came to these numbers, where the script says others or the same; it is right if they are the same and it has no flaw. A wrong one is written,
     // with the words for its flaw.
-    pub fn compared(self, numbers: Numbers, said: Numbers, flaw: &[u8]) -> Group {
+    pub fn compared(
+        self,
+        out: &mut impl Write,
+        numbers: Numbers,
+        said: Numbers,
+        flaw: &[u8],
+    ) -> io::Result<Group> {
         let right = numbers.same(said) & (flaw.len() == 0);
         if !right {
-            self.print_number();
-            io::write_all(STDOUT_FILENO, b" came to");
-            numbers.print();
-            io::write_all(STDOUT_FILENO, flaw);
-            io::write_all(STDOUT_FILENO, b"\n");
+            write!(out, "  line {} came to", self.number)?;
+            numbers.print(out)?;
+            out.write_all(flaw)?;
+            writeln!(out)?;
         }
-        self.counted(right)
+        Ok(self.counted(right))
     }
 
     // One step more, right or not.
@@ -63,33 +76,26 @@ impl Group {
         next
     }
 
-    // The line is no step that can be played, which is printed, and counts as a wrong one.
-    pub fn cannot_be_read(self) -> Group {
-        self.print_number();
-        io::write_all(STDOUT_FILENO, b" cannot be read\n");
-        self.counted(false)
+    // The line is no step that can be played, which is written, and counts as a wrong one.
+    pub fn cannot_be_read(self, out: &mut impl Write) -> io::Result<Group> {
+        writeln!(out, "  line {} cannot be read", self.number)?;
+        Ok(self.counted(false))
     }
 
-    // Prints the number of the line, before what the step came to.
-    fn print_number(self) {
-        io::write_all(STDOUT_FILENO, b"  line ");
-        io::print_decimal(STDOUT_FILENO, self.number as u64);
-    }
-
-    // Prints the line of the group, if there is one.
-    pub fn report(self, text: &[u8]) {
+    // Writes the line of the group, if there is one.
+    pub fn report(self, out: &mut impl Write, text: &[u8]) -> io::Result<()> {
         let from = self.from;
         let to = self.to;
         if (to == 0) & (self.tally.all == 0) {
-            return;
+            return Ok(());
         }
         if text.len() < to {
-            return;
+            return Ok(());
         }
         if to < from {
-            return;
+            return Ok(());
         }
-        self.tally.report(&text[from..to]);
+        self.tally.report(out, &text[from..to])
     }
 }
 

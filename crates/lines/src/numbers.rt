@@ -1,7 +1,8 @@
 // Numbers as the script writes them, decimal, or hexadecimal with an h behind: 9, 09h.
 ghost use Rattle.std.specs.Prelude.{◌≤◌};
 
-use libc::STDOUT_FILENO;
+use std::io;
+use std::io::Write;
 
 // Up to 24 numbers, in the first `count` places. No line of the script has as many.
 #[derive(Clone, Copy)]
@@ -86,16 +87,17 @@ impl Numbers {
         true
     }
 
-    // Prints the numbers, each behind a blank.
-    pub fn print(self) {
+    // Writes the numbers, each behind a blank.
+    pub fn print(self, out: &mut impl Write) -> io::Result<()> {
         let mut i: usize = 0;
         while i < 24 {
             if i < self.count {
-                io::write_all(STDOUT_FILENO, b" ");
-                io::print_decimal(STDOUT_FILENO, self.at(i));
+                let number = self.at(i);
+                write!(out, " {number}")?;
             }
             i += 1;
         }
+        Ok(())
     }
 }
 

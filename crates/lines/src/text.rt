@@ -1,19 +1,23 @@
 // The text of a script, and where its lines end.
-ghost use Rattle.std.specs.Prelude.{◌≤◌, length};
-ghost use Rattle.io.specs.Counts.{IsPrefixLen};
+ghost use Rattle.std.specs.Prelude.{◌≡◌, ◌≤◌, length, take, IfOk, IfSome};
+ghost use Rattle.std.specs.Io.{ReadsAtMost};
 
-// Reads the script from standard input, and says how long it is. If it fills the text, there may be more of it, which is said.
-pub fn read(text: &mut [u8]) -> usize
-    ensures { IsPrefixLen result text.new }
+use std::io;
+use std::io::{Read, Write};
+
+// Reads the script, and says how long it is. If it fills the text, there may be more of it, which is written.
+pub fn read<R: Read>(input: &mut R, out: &mut impl Write, text: &mut [u8]) -> io::Result<usize>
+    ensures bound { ReadsAtMost result text.new }
+    ensures bytes { IfOk result (λ n. IfSome (R.remaining input.old) (λ xs. take n text.new ≡ take (length text.new) xs)) }
 {
-    let n = io::read_full(libc::STDIN_FILENO, text);
+    let n = fills::read_full(input, text)?;
     if n == 65536 {
-        io::write_all(
-            libc::STDOUT_FILENO,
-            b"the script has more than 65,535 bytes; what follows them is not played\n",
-        );
+        writeln!(
+            out,
+            "the script has more than 65,535 bytes; what follows them is not played"
+        )?;
     }
-    n
+    Ok(n)
 }
 
 // Where the line that begins at a place ends: at the next line feed, or with the text.

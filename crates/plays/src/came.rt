@@ -4,6 +4,8 @@ use lines::groups::Group;
 use lines::numbers::Numbers;
 use looks::same;
 use machine::{Machine, Stepped};
+use std::io;
+use std::io::Write;
 
 // The machine, the numbers to compare with what the script says, whether no cell behind those written was touched, and whether the machine is as
 // it was if the call was refused.
@@ -56,13 +58,18 @@ pub fn seen(machine: Machine, numbers: Numbers) -> Came {
 }
 
 // Compares it with what the script says, and counts it in the group.
-pub fn compared(came: Came, said: Numbers, group: Group) -> Group {
+pub fn compared(
+    out: &mut impl Write,
+    came: Came,
+    said: Numbers,
+    group: Group,
+) -> io::Result<Group> {
     let numbers = came.numbers;
     if !came.untouched {
-        return group.compared(numbers, said, b", and wrote behind its cells");
+        return group.compared(out, numbers, said, b", and wrote behind its cells");
     }
     if !came.kept {
-        return group.compared(numbers, said, b", and changed the machine");
+        return group.compared(out, numbers, said, b", and changed the machine");
     }
-    group.compared(numbers, said, b"")
+    group.compared(out, numbers, said, b"")
 }

@@ -9,8 +9,11 @@ mod came;
 mod script;
 mod shapes;
 
-fn main() {
-    let mut text = io::large_buffer();
-    let n = lines::text::read(&mut text);
-    script::play(&text[..n]);
+use std::io;
+
+fn main(rt: HostRuntime) -> io::Result<()> {
+    let mut out = io::writer(&rt);
+    let mut text = [0u8; 65536];
+    let n = lines::text::read(&mut rt.reader(), &mut out, &mut text)?;
+    script::play(&mut out, &text[..n])
 }

@@ -2,6 +2,8 @@
 use crate::setup::Setup;
 use lines::groups::Group;
 use lines::numbers::Numbers;
+use std::io;
+use std::io::Write;
 
 // What the next run is given, the numbers to compare with what the script says, whether no cell behind those written was touched, and whether
 // machine and boards kept what they had to.
@@ -24,13 +26,18 @@ pub fn seen(setup: Setup, numbers: Numbers) -> Came {
 }
 
 // Compares it with what the script says, and counts it in the group.
-pub fn compared(came: Came, said: Numbers, group: Group) -> Group {
+pub fn compared(
+    out: &mut impl Write,
+    came: Came,
+    said: Numbers,
+    group: Group,
+) -> io::Result<Group> {
     let numbers = came.numbers;
     if !came.untouched {
-        return group.compared(numbers, said, b", and wrote behind its cells");
+        return group.compared(out, numbers, said, b", and wrote behind its cells");
     }
     if !came.kept {
-        return group.compared(numbers, said, b", and changed what had to stay");
+        return group.compared(out, numbers, said, b", and changed what had to stay");
     }
-    group.compared(numbers, said, b"")
+    group.compared(out, numbers, said, b"")
 }

@@ -1,7 +1,8 @@
 // How many steps of a group came out right, for a program that holds the code to numbers from outside, and the group's line.
 #![tactic(auto)]
 
-use libc::STDOUT_FILENO;
+use std::io;
+use std::io::Write;
 
 #[derive(Clone, Copy)]
 pub struct Tally {
@@ -30,28 +31,25 @@ impl Tally {
         }
     }
 
-    // One number more: what was asked, what came out, and what should have. A wrong one is printed.
-    pub fn number(self, asked: u32, got: u32, should: u32) -> Tally {
+    // One number more: what was asked, what came out, and what should have. A wrong one is written.
+    pub fn number(
+        self,
+        out: &mut impl Write,
+        asked: u32,
+        got: u32,
+        should: u32,
+    ) -> io::Result<Tally> {
         if got != should {
-            io::write_all(STDOUT_FILENO, b"  asked ");
-            io::print_decimal(STDOUT_FILENO, asked as u64);
-            io::write_all(STDOUT_FILENO, b": ");
-            io::print_decimal(STDOUT_FILENO, got as u64);
-            io::write_all(STDOUT_FILENO, b", should be ");
-            io::print_decimal(STDOUT_FILENO, should as u64);
-            io::write_all(STDOUT_FILENO, b"\n");
+            writeln!(out, "  asked {asked}: {got}, should be {should}")?;
         }
-        self.with(got == should)
+        Ok(self.with(got == should))
     }
 
-    // The line of a group.
-    pub fn report(self, group: &[u8]) {
-        io::print_decimal(STDOUT_FILENO, self.right as u64);
-        io::write_all(STDOUT_FILENO, b" of ");
-        io::print_decimal(STDOUT_FILENO, self.all as u64);
-        io::write_all(STDOUT_FILENO, b": ");
-        io::write_all(STDOUT_FILENO, group);
-        io::write_all(STDOUT_FILENO, b"\n");
+    // Writes the line of a group.
+    pub fn report(self, out: &mut impl Write, group: &[u8]) -> io::Result<()> {
+        write!(out, "{} of {}: ", self.right, self.all)?;
+        out.write_all(group)?;
+        writeln!(out)
     }
 }
 

@@ -27,10 +27,9 @@ pub fn word(out: &mut [u8], from: usize, characters: &[u8]) -> usize {
 
 // A number in decimal, behind its word.
 pub fn number(out: &mut [u8], from: usize, name: &[u8], n: u64) -> usize {
-    let mut digits = [0u8; 20];
-    let many = io::decimal(n, &mut digits);
+    let mut digits = itoa::Buffer::new();
     let at = word(out, from, name);
-    word(out, at, &digits[..many])
+    word(out, at, digits.format(n).as_bytes())
 }
 
 // A mark as 1 or 0, behind its word.

@@ -1,53 +1,59 @@
 // Address slots.
 use crate::sweep::{Test, passing};
+use std::io;
+use std::io::Write;
 use tally::Tally;
 
 // 000 table 8: how many addresses are free for use, by range.
-pub fn free_for_use() {
+pub fn free_for_use(out: &mut impl Write) -> io::Result<()> {
     let mut t = Tally::new();
-    t = t.number(0x08, passing(Test::Class(4), 0x08, 0x3D), 54);
-    t = t.number(0x3F, passing(Test::Class(4), 0x3F, 0x5D), 31);
-    t = t.number(0x5F, passing(Test::Class(4), 0x5F, 0x6D), 15);
-    t = t.number(0x6F, passing(Test::Class(4), 0x6F, 0x75), 7);
-    t = t.number(0x77, passing(Test::Class(4), 0x77, 0x77), 1);
-    t = t.number(0x00, passing(Test::Class(4), 0x00, 0x7F), 108);
-    t.report(b"addresses free for use, by range and in all (000 table 8, 01)");
+    t = t.number(out, 0x08, passing(Test::Class(4), 0x08, 0x3D), 54)?;
+    t = t.number(out, 0x3F, passing(Test::Class(4), 0x3F, 0x5D), 31)?;
+    t = t.number(out, 0x5F, passing(Test::Class(4), 0x5F, 0x6D), 15)?;
+    t = t.number(out, 0x6F, passing(Test::Class(4), 0x6F, 0x75), 7)?;
+    t = t.number(out, 0x77, passing(Test::Class(4), 0x77, 0x77), 1)?;
+    t = t.number(out, 0x00, passing(Test::Class(4), 0x00, 0x7F), 108)?;
+    t.report(
+        out,
+        b"addresses free for use, by range and in all (000 table 8, 01)",
+    )
 }
 
 // 01's table, row by row, and how many of each class there are. Class 1 is exactly what 000 table 59 lists: one bit away from 7Eh.
-pub fn classes() {
+pub fn classes(out: &mut impl Write) -> io::Result<()> {
     let mut t = Tally::new();
-    t = t.number(0x00, passing(Test::Class(0), 0x00, 0x02), 3);
-    t = t.number(0x7E, passing(Test::Class(0), 0x7E, 0x7E), 1);
-    t = t.number(0x00, passing(Test::Class(0), 0x00, 0x7F), 4);
-    t = t.number(0x00, passing(Test::Class(1), 0x00, 0x7F), 7);
-    t = t.number(0x00, passing(Test::Near, 0x00, 0x7F), 128);
-    t = t.number(0x03, passing(Test::Class(2), 0x03, 0x03), 1);
-    t = t.number(0x00, passing(Test::Class(2), 0x00, 0x7F), 1);
-    t = t.number(0x04, passing(Test::Class(3), 0x04, 0x07), 4);
-    t = t.number(0x00, passing(Test::Class(3), 0x00, 0x7F), 4);
-    t = t.number(0x78, passing(Test::Class(5), 0x78, 0x79), 2);
-    t = t.number(0x7B, passing(Test::Class(5), 0x7B, 0x7B), 1);
-    t = t.number(0x7D, passing(Test::Class(6), 0x7D, 0x7D), 1);
-    t = t.number(0x80, passing(Test::Class(7), 0x80, 0xFF), 128);
-    t.report(b"classes of all 128 addresses (01, 000 table 59)");
+    t = t.number(out, 0x00, passing(Test::Class(0), 0x00, 0x02), 3)?;
+    t = t.number(out, 0x7E, passing(Test::Class(0), 0x7E, 0x7E), 1)?;
+    t = t.number(out, 0x00, passing(Test::Class(0), 0x00, 0x7F), 4)?;
+    t = t.number(out, 0x00, passing(Test::Class(1), 0x00, 0x7F), 7)?;
+    t = t.number(out, 0x00, passing(Test::Near, 0x00, 0x7F), 128)?;
+    t = t.number(out, 0x03, passing(Test::Class(2), 0x03, 0x03), 1)?;
+    t = t.number(out, 0x00, passing(Test::Class(2), 0x00, 0x7F), 1)?;
+    t = t.number(out, 0x04, passing(Test::Class(3), 0x04, 0x07), 4)?;
+    t = t.number(out, 0x00, passing(Test::Class(3), 0x00, 0x7F), 4)?;
+    t = t.number(out, 0x78, passing(Test::Class(5), 0x78, 0x79), 2)?;
+    t = t.number(out, 0x7B, passing(Test::Class(5), 0x7B, 0x7B), 1)?;
+    t = t.number(out, 0x7D, passing(Test::Class(6), 0x7D, 0x7D), 1)?;
+    t = t.number(out, 0x80, passing(Test::Class(7), 0x80, 0xFF), 128)?;
+    t.report(out, b"classes of all 128 addresses (01, 000 table 59)")
 }
 
 // 01's marked numbers, and how many addresses its rules leave open.
-pub fn opens() {
+pub fn opens(out: &mut impl Write) -> io::Result<()> {
     let mut t = Tally::new();
-    t = t.number(0x3E, passing(Test::Class(1), 0x3E, 0x3E), 1);
-    t = t.number(0x3F, passing(Test::Open(0), 0x3F, 0x3F), 1);
-    t = t.number(0x07, passing(Test::Open(1), 0x07, 0x07), 0);
-    t = t.number(0x08, passing(Test::Open(1), 0x08, 0x08), 1);
-    t = t.number(0, passing(Test::Open(0), 0x00, 0xFF), 112);
-    t = t.number(1, passing(Test::Open(1), 0x00, 0xFF), 108);
-    t = t.number(2, passing(Test::Open(2), 0x00, 0xFF), 113);
-    t = t.number(3, passing(Test::Open(3), 0x00, 0xFF), 109);
-    t = t.number(0xFF, passing(Test::NeverOpen, 0x00, 0xFF), 256);
+    t = t.number(out, 0x3E, passing(Test::Class(1), 0x3E, 0x3E), 1)?;
+    t = t.number(out, 0x3F, passing(Test::Open(0), 0x3F, 0x3F), 1)?;
+    t = t.number(out, 0x07, passing(Test::Open(1), 0x07, 0x07), 0)?;
+    t = t.number(out, 0x08, passing(Test::Open(1), 0x08, 0x08), 1)?;
+    t = t.number(out, 0, passing(Test::Open(0), 0x00, 0xFF), 112)?;
+    t = t.number(out, 1, passing(Test::Open(1), 0x00, 0xFF), 108)?;
+    t = t.number(out, 2, passing(Test::Open(2), 0x00, 0xFF), 113)?;
+    t = t.number(out, 3, passing(Test::Open(3), 0x00, 0xFF), 109)?;
+    t = t.number(out, 0xFF, passing(Test::NeverOpen, 0x00, 0xFF), 256)?;
     t.report(
+        out,
         b"3Eh, 3Fh, 07h, 08h, open addresses by flags, none one bit away from 7Eh with any flag byte (01, by 01's rules)",
-    );
+    )
 }
 
 // The slot test as one number: the refusal times 10, plus 1 for open.
@@ -61,34 +67,37 @@ fn asked(flags: u8, legacy: &[u8], address: u8) -> u32 {
 }
 
 // Refusal 1 for the facts, then 2 for the address.
-pub fn refusals() {
+pub fn refusals(out: &mut impl Write) -> io::Result<()> {
     let none = [0u8; 17];
     let mut low = [0u8; 16];
     low[0] = 128;
     let mut high = [0u8; 16];
     high[15] = 1;
     let mut t = Tally::new();
-    t = t.number(0x08, asked(1, &none[..16], 0x08), 1);
-    t = t.number(0x08, asked(4, &none[..16], 0x08), 10);
-    t = t.number(0xFF, asked(128, &none[..16], 0xFF), 10);
-    t = t.number(0x80, asked(1, &none[..16], 0x80), 20);
-    t = t.number(0x09, asked(1, &low, 0x09), 10);
-    t = t.number(0x09, asked(1, &high, 0x09), 10);
-    t = t.number(0x09, asked(1, &none, 0x09), 10);
-    t = t.number(0x09, asked(1, &none[..15], 0x09), 10);
-    t = t.number(0x09, asked(1, &none[..0], 0x09), 10);
-    t.report(b"refusals 1 and 2 of the slot test (by 01's rules)");
+    t = t.number(out, 0x08, asked(1, &none[..16], 0x08), 1)?;
+    t = t.number(out, 0x08, asked(4, &none[..16], 0x08), 10)?;
+    t = t.number(out, 0xFF, asked(128, &none[..16], 0xFF), 10)?;
+    t = t.number(out, 0x80, asked(1, &none[..16], 0x80), 20)?;
+    t = t.number(out, 0x09, asked(1, &low, 0x09), 10)?;
+    t = t.number(out, 0x09, asked(1, &high, 0x09), 10)?;
+    t = t.number(out, 0x09, asked(1, &none, 0x09), 10)?;
+    t = t.number(out, 0x09, asked(1, &none[..15], 0x09), 10)?;
+    t = t.number(out, 0x09, asked(1, &none[..0], 0x09), 10)?;
+    t.report(out, b"refusals 1 and 2 of the slot test (by 01's rules)")
 }
 
 // Legacy addresses close their slots and no other.
-pub fn legacy() {
+pub fn legacy(out: &mut impl Write) -> io::Result<()> {
     let mut some = [0u8; 16];
     some[1] = 1;
     some[14] = 128;
     let mut t = Tally::new();
-    t = t.number(0x08, asked(1, &some, 0x08), 0);
-    t = t.number(0x09, asked(1, &some, 0x09), 1);
-    t = t.number(0x75, asked(1, &some, 0x75), 1);
-    t = t.number(0x77, asked(1, &some, 0x77), 0);
-    t.report(b"slots of legacy addresses 08h and 77h (by 01's rules)");
+    t = t.number(out, 0x08, asked(1, &some, 0x08), 0)?;
+    t = t.number(out, 0x09, asked(1, &some, 0x09), 1)?;
+    t = t.number(out, 0x75, asked(1, &some, 0x75), 1)?;
+    t = t.number(out, 0x77, asked(1, &some, 0x77), 0)?;
+    t.report(
+        out,
+        b"slots of legacy addresses 08h and 77h (by 01's rules)",
+    )
 }

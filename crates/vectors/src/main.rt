@@ -10,20 +10,23 @@ mod calls;
 mod records;
 mod sweep;
 
-fn main() {
-    bytes::ninth_bits();
-    bytes::commands();
-    bytes::frames();
-    bytes::roles();
-    bytes::offers();
-    bytes::every_byte();
-    records::named();
-    records::direct();
-    records::example();
-    addresses::free_for_use();
-    addresses::classes();
-    addresses::opens();
-    addresses::refusals();
-    addresses::legacy();
-    calls::numbers();
+use std::io;
+
+fn main(rt: HostRuntime) -> io::Result<()> {
+    let mut out = io::writer(&rt);
+    bytes::ninth_bits(&mut out)?;
+    bytes::commands(&mut out)?;
+    bytes::frames(&mut out)?;
+    bytes::roles(&mut out)?;
+    bytes::offers(&mut out)?;
+    bytes::every_byte(&mut out)?;
+    records::named(&mut out)?;
+    records::direct(&mut out)?;
+    records::example(&mut out)?;
+    addresses::free_for_use(&mut out)?;
+    addresses::classes(&mut out)?;
+    addresses::opens(&mut out)?;
+    addresses::refusals(&mut out)?;
+    addresses::legacy(&mut out)?;
+    calls::numbers(&mut out)
 }

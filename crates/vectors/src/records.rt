@@ -4,6 +4,8 @@ use parity::{
     BROADCAST_WRITE_SILENT, HOT_JOIN_ANSWERED, HOT_JOIN_REFUSED, JOINING, MOVE, REPEATED_START,
     RESET_ALL, SET_FROM_STATIC, SILENCE, START, STOP,
 };
+use std::io;
+use std::io::Write;
 use tally::Tally;
 
 // How many cells of a record are what they should be; none of one over 1,024 cells.
@@ -40,16 +42,23 @@ fn clocks(cells: &[u16]) -> u32 {
 }
 
 // One record of n cells against the cells and clocks that it should have.
-pub fn record(t: Tally, cells: &[u16], should: &[u16], n: u32, clocked: u32) -> Tally {
-    t.number(n, agreeing(cells, should), n)
-        .number(n, clocks(cells), clocked)
+pub fn record(
+    out: &mut impl Write,
+    t: Tally,
+    cells: &[u16],
+    should: &[u16],
+    n: u32,
+    clocked: u32,
+) -> io::Result<Tally> {
+    t.number(out, n, agreeing(cells, should), n)?
+        .number(out, n, clocks(cells), clocked)
 }
 
 // Records without a board's own bytes.
-pub fn named() {
+pub fn named(out: &mut impl Write) -> io::Result<()> {
     let mut t = Tally::new();
     let nobody = [START, BROADCAST_WRITE_SILENT, STOP];
-    t = record(t, &nobody, &[512, 505, 514], 3, 9);
+    t = record(out, t, &nobody, &[512, 505, 514], 3, 9)?;
     let served = [
         START,
         BROADCAST_WRITE_ANSWERED,
@@ -58,13 +67,13 @@ pub fn named() {
         BROADCAST_READ_SILENT,
         STOP,
     ];
-    t = record(t, &served, &[512, 504, 14, 513, 507, 514], 6, 27);
+    t = record(out, t, &served, &[512, 504, 14, 513, 507, 514], 6, 27)?;
     let reset = [START, BROADCAST_WRITE_ANSWERED, RESET_ALL, STOP];
-    t = record(t, &reset, &[512, 504, 13, 514], 4, 18);
+    t = record(out, t, &reset, &[512, 504, 13, 514], 4, 18)?;
     let allowed = [START, BROADCAST_WRITE_ANSWERED, ALLOW, JOINING, STOP];
-    t = record(t, &allowed, &[512, 504, 1, 16, 514], 5, 27);
+    t = record(out, t, &allowed, &[512, 504, 1, 16, 514], 5, 27)?;
     let refused = [START, HOT_JOIN_REFUSED, STOP];
-    t = record(t, &refused, &[512, 9, 514], 3, 9);
+    t = record(out, t, &refused, &[512, 9, 514], 3, 9)?;
     let silenced = [
         START,
         HOT_JOIN_ANSWERED,
@@ -74,12 +83,15 @@ pub fn named() {
         JOINING,
         STOP,
     ];
-    t = record(t, &silenced, &[512, 8, 513, 504, 2, 16, 514], 7, 36);
-    t.report(b"records of named cells, and their clocks (01, by 01's rules)");
+    t = record(out, t, &silenced, &[512, 8, 513, 504, 2, 16, 514], 7, 36)?;
+    t.report(
+        out,
+        b"records of named cells, and their clocks (01, by 01's rules)",
+    )
 }
 
 // A set from static 50h to 09h, and a move from 09h to 0Bh.
-pub fn direct() {
+pub fn direct(out: &mut impl Write) -> io::Result<()> {
     let from_static = parity::answer_cell(parity::write_byte(0x50), true);
     let to_09 = parity::data_cell(parity::write_byte(0x09));
     let from_09 = parity::answer_cell(parity::write_byte(0x09), true);
@@ -94,7 +106,7 @@ pub fn direct() {
         to_09,
         STOP,
     ];
-    t = record(t, &set, &[512, 504, 271, 513, 320, 37, 514], 7, 36);
+    t = record(out, t, &set, &[512, 504, 271, 513, 320, 37, 514], 7, 36)?;
     let moved = [
         START,
         BROADCAST_WRITE_ANSWERED,
@@ -104,12 +116,22 @@ pub fn direct() {
         to_0b,
         STOP,
     ];
-    t = record(t, &moved, &[512, 504, 273, 513, 36, 44, 514], 7, 36);
-    t.report(b"records of a set and a move, and their clocks (by 01's rules)");
+    t = record(out, t, &moved, &[512, 504, 273, 513, 36, 44, 514], 7, 36)?;
+    t.report(
+        out,
+        b"records of a set and a move, and their clocks (by 01's rules)",
+    )
 }
 
 // A round of 01's example: the board with byte 4 of its identity `four` is offered an address, with this answer.
-fn round(t: Tally, four: u8, address: u8, answered: bool, should: u16) -> Tally {
+fn round(
+    out: &mut impl Write,
+    t: Tally,
+    four: u8,
+    address: u8,
+    answered: bool,
+    should: u16,
+) -> io::Result<Tally> {
     let x02 = parity::identity_cell(0x02);
     let x00 = parity::identity_cell(0x00);
     let x04 = parity::identity_cell(four);
@@ -131,6 +153,7 @@ fn round(t: Tally, four: u8, address: u8, answered: bool, should: u16) -> Tally 
     ];
     let fourth = 1024 + (four as u16);
     record(
+        out,
         t,
         &cells,
         &[
@@ -142,14 +165,14 @@ fn round(t: Tally, four: u8, address: u8, answered: bool, should: u16) -> Tally 
 }
 
 // 01's example run: two boards, the first offer flipped. The opening's 18 clocks, three rounds' 82 each and the ending's 9 are its 273.
-pub fn example() {
+pub fn example(out: &mut impl Write) -> io::Result<()> {
     let mut t = Tally::new();
     let opening = [START, BROADCAST_WRITE_ANSWERED, ASSIGN, REPEATED_START];
-    t = record(t, &opening, &[512, 504, 14, 513], 4, 18);
-    t = round(t, 0x00, 0x08, false, 33);
-    t = round(t, 0x00, 0x08, true, 32);
-    t = round(t, 0x10, 0x09, true, 38);
+    t = record(out, t, &opening, &[512, 504, 14, 513], 4, 18)?;
+    t = round(out, t, 0x00, 0x08, false, 33)?;
+    t = round(out, t, 0x00, 0x08, true, 32)?;
+    t = round(out, t, 0x10, 0x09, true, 38)?;
     let ending = [BROADCAST_READ_SILENT, STOP];
-    t = record(t, &ending, &[507, 514], 2, 9);
-    t.report(b"the example run, piece by piece, and its clocks (01)");
+    t = record(out, t, &ending, &[507, 514], 2, 9)?;
+    t.report(out, b"the example run, piece by piece, and its clocks (01)")
 }
