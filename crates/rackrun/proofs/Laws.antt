@@ -8,9 +8,12 @@ use lib.Dec.{eqb, leb}
 use lib.ListN.{length, take, length-take}
 use lib.Seq.{take_all}
 use borrow.Author.Tests.{lt-leb, leb-true, leb-false, ne_eqb}
+use Rattle.std.proofs.Common.{Ok, Err, None, Some, IfSome, OnOk, Result, subst, drop}
+use Rattle.std.proofs.Math.Seq.{take-append_seam}
+use Rattle.std.specs.Io.KnownBytes.{Appends}
+use Rattle.std.specs.declared.option.Option.{Option}
 use Rattle.lists.specs.Buffers.{lay}
 use Rattle.lists.proofs.Bools.{cond_by}
-use Rattle.lists.proofs.Buffers.{lay-length}
 use Rattle.listing.specs.Listing.{refusal_line, lent}
 use Rattle.listing.proofs.Lines.{refusal_short}
 use Rattle.sheet.specs.declared.SheetRan.{SheetRan}
@@ -83,11 +86,19 @@ module _ (sheet out : List ℕ) (room : length out ≡ 1100) {ran : SheetRan} {s
     unfolding answer
     prints_refusal l w = rw (ne_eqb (sheet_refusal sheet 1100) 0 not_taken, ← refusal_same) (rw (stays, room) at l, rw (stays, room) at w)
 
-module _ (sheet out : List ℕ) (room : length out ≡ 1100) {n : ℕ} {stand : List ℕ} (prints : Prints sheet out n stand) where
-  -- it stands within the bytes that were lent
-  pub prints_within : n ≤ length stand
-  prints_within = rw (prints.0, prints.1, lay-length (answer sheet) out (omega (arith, answer_short sheet))) (omega (arith, answer_short sheet))
+-- the bytes that stand where they were left are what is printed
+pub stands : (sheet out : List ℕ) {n : ℕ} {stand : List ℕ} → Prints sheet out n stand → take n stand ≡ answer sheet
+stands sheet out p = rw (p.0, p.1) (take-append_seam (answer sheet) (drop (length (answer sheet)) out))
 
-  -- so a part of them holds it
-  pub prints_long : n ≡ length (take n stand)
-  prints_long = omega (arith, prints_within, length-take n stand)
+-- what is written for the first 513 bytes of an input is written for all of it
+pub written : {T E : Type 0} (r : Result T E) (input old new : Option (List ℕ)) (head text : List ℕ) (most : ℕ)
+    → most ≡ 513
+    → IfSome input (λ xs. head ≡ take most xs)
+    → text ≡ answer head
+    → OnOk r (Appends old new text)
+    → OnOk r (IfSome input (λ xs. Appends old new (answer xs)))
+written (Ok x) None old new head text most m h e w = tt
+written (Ok x) (Some xs) old new head text most m h e w =
+    let same : text ≡ answer xs = e ∙ ap answer (h ∙ ap (λ n. take n xs) m) ∙ enough_read xs in
+    subst (Appends old new) same w
+written (Err x) input old new head text most m h e w = tt

@@ -1,5 +1,5 @@
 -- `echoes::reads::off` is safe, and ends with the whole record.
-use Rattle.std.proofs.Common.{◌-◌, ◌≤◌, length}
+use Rattle.std.proofs.Common.{◌-◌, ◌≤◌}
 use Rattle.echoes.proofs.reads.off.Given as goal
 
 abbrev pub invariant-loop-n : goal.invariant-loop-n
