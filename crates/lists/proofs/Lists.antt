@@ -15,10 +15,10 @@ module _ {A : Type 0} where
   drop_step l i d h = rw (add-one, drop-cons l i d)
 
   -- within a list the default does not matter
-  pub get_d_any : (l : List A) (i : ℕ) (d e : A) → i < length l → get_or l i d ≡ get_or l i e
-  get_d_any [] i d e h = absurd (omega arith)
-  get_d_any (x ∷ l) zero d e h = refl
-  get_d_any (x ∷ l) (suc i) d e h = get_d_any l i d e (omega arith)
+  pub get_or_any : (l : List A) (i : ℕ) (d e : A) → i < length l → get_or l i d ≡ get_or l i e
+  get_or_any [] i d e h = absurd (omega arith)
+  get_or_any (x ∷ l) zero d e h = refl
+  get_or_any (x ∷ l) (suc i) d e h = get_or_any l i d e (omega arith)
 
   module _ (p : A → Bool) (l : List A) (i : ℕ) where
     pub any_end : length l ≤ i → any p (drop i l) ≡ false

@@ -4,6 +4,8 @@
 // and a call that does not end, are told with their place, and end the script: `bad script at PLACE`.
 #![tactic(auto)]
 
+ghost use Rattle.std.specs.Prelude.{◌≡◌, length};
+
 mod calls;
 mod given;
 mod hand_made;
@@ -14,8 +16,15 @@ use std::io;
 // One byte more than is played of a script, so that what is longer can be told from what is not.
 const ROOM: usize = 262145;
 
+// The place for a script.
+fn room() -> [u8; ROOM]
+    ensures { 262145 ≡ length result }
+{
+    [0; ROOM]
+}
+
 fn main(rt: HostRuntime) -> io::Result<()> {
-    let mut bytes = [0u8; ROOM];
+    let mut bytes = room();
     let n = fills::read_full(&mut rt.reader(), &mut bytes)?;
     script::play(&mut io::writer(&rt), &bytes[..n])
 }

@@ -1,7 +1,6 @@
 -- `begins::asked_right` meets its contract.
 use Rattle.lists.proofs.Bools.{chain}
 use Rattle.begins.specs.Begins.{asked_right}
-use borrow.Author.Rules.{rules}
 use Rattle.begins.proofs.asked_right.Goals as goal
 
 pub returns-in-0 : goal.returns-in-0

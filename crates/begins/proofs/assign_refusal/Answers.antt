@@ -1,7 +1,6 @@
 -- `begins::assign_refusal` meets its contract.
 use Rattle.lists.proofs.Bools.{chain}
 use Rattle.begins.specs.Begins.{assign_refusal}
-use borrow.Author.Rules.{rules}
 use Rattle.begins.proofs.assign_refusal.Goals as goal
 
 pub returns-then-full : goal.returns-then-full

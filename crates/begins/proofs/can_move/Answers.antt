@@ -1,7 +1,6 @@
 -- `begins::can_move` meets its contract.
 use Rattle.lists.proofs.Bools.{same}
 use Rattle.begins.specs.Begins.{can_move}
-use borrow.Author.Rules.{rules}
 use Rattle.begins.proofs.can_move.Goals as goal
 
 pub returns : goal.returns

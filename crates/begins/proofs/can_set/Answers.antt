@@ -1,7 +1,6 @@
 -- `begins::can_set` meets its contract.
 use Rattle.lists.proofs.Bools.{same}
 use Rattle.begins.specs.Begins.{can_set}
-use borrow.Author.Rules.{rules}
 use Rattle.begins.proofs.can_set.Goals as goal
 
 pub returns : goal.returns

@@ -1,7 +1,6 @@
 -- `begins::choice_refusal` meets its contract.
 use Rattle.lists.proofs.Bools.{chain}
 use Rattle.begins.specs.Begins.{choice_refusal}
-use borrow.Author.Rules.{rules}
 use Rattle.begins.proofs.choice_refusal.Goals as goal
 
 pub returns-then-choice-gt5 : goal.returns-then-choice-gt5

@@ -1,7 +1,6 @@
 -- `begins::joining_refusal` meets its contract.
 use Rattle.lists.proofs.Bools.{chain}
 use Rattle.begins.specs.Begins.{joining_refusal}
-use borrow.Author.Rules.{rules}
 use Rattle.begins.proofs.joining_refusal.Goals as goal
 
 pub returns-then-choice-gt2 : goal.returns-then-choice-gt2

@@ -3,7 +3,6 @@ use Rattle.lists.proofs.Bools.{chain}
 use Rattle.table.specs.Tickets.{ticket_refusal}
 use Rattle.begins.specs.Begins.{move_refusal}
 use Rattle.begins.proofs.Laws.{ticket_refused, ticket_right}
-use borrow.Author.Rules.{rules}
 use Rattle.begins.proofs.move_refusal.Goals as goal
 
 pub returns-then-new-gt127 : goal.returns-then-new-gt127

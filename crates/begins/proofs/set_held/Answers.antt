@@ -1,6 +1,5 @@
 -- `begins::set_held` meets its contract.
 use Rattle.lists.proofs.Bools.{same}
-use borrow.Author.Rules.{rules}
 use Rattle.begins.proofs.set_held.Goals as goal
 
 pub returns : goal.returns

@@ -1,7 +1,6 @@
 -- `begins::set_refusal` meets its contract.
 use Rattle.lists.proofs.Bools.{chain}
 use Rattle.begins.specs.Begins.{set_refusal}
-use borrow.Author.Rules.{rules}
 use Rattle.begins.proofs.set_refusal.Goals as goal
 
 pub returns-then-set_out_of_range : goal.returns-then-set_out_of_range

@@ -1,6 +1,5 @@
 -- `begins::static_held` meets its contract.
 use Rattle.lists.proofs.Bools.{same}
-use borrow.Author.Rules.{rules}
 use Rattle.begins.proofs.static_held.Goals as goal
 
 pub returns : goal.returns

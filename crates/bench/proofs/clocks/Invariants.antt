@@ -1,10 +1,7 @@
 use Prim.Native.Nat.{◌≤◌, ◌+◌, ◌-◌, ◌*◌}
 use mathlib.Core.Path.{◌≡◌}
-use native.Mathlib.Omega.{arith}
 use lib.ListN.{length, drop}
 use Rattle.bench.specs.Play.{clocks_in}
-use Rattle.bench.proofs.Places.{clocks_turn, clocks_end}
-use borrow.Author.Rules.{rules}
 use Rattle.bench.proofs.clocks.Given as goal
 
 abbrev pub invariant-loop-i : goal.invariant-loop-i

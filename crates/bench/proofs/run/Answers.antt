@@ -1,7 +1,6 @@
 -- `bench::run` meets its contract: a run on the wire is kept by the plain rule.
 use Rattle.bench.proofs.Given.{first_wide}
 use Rattle.bench.proofs.Benched.{allowed, run_refused, run_long, run_short, run_played}
-use borrow.Author.Rules.{rules}
 use Rattle.bench.proofs.run.Goals as goal
 
 pub returns-then-refusal-ne0 : goal.returns-then-refusal-ne0

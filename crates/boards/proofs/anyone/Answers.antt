@@ -1,8 +1,6 @@
 -- `boards::anyone` meets its contract: a search loop.
-use Prim.Native.Nat.{◌-◌}
-use mathlib.Core.Bool.{false}
 use native.Mathlib.Omega.{arith}
-use Rattle.lists.proofs.Loops.{Any, any_start, any_turn, any_found, any_ended}
+use Rattle.lists.proofs.Loops.{any_start, any_turn, any_found, any_ended}
 use Rattle.boards.proofs.anyone.Goals as goal
 
 pub loop-i-init : goal.loop-i-init

@@ -1,7 +1,6 @@
 use Prim.Native.Nat.{◌-◌}
 use mathlib.Core.Bool.{false}
-use native.Mathlib.Omega.{arith}
-use Rattle.lists.proofs.Loops.{Any, any_start, any_turn, any_found, any_ended}
+use Rattle.lists.proofs.Loops.{Any}
 use Rattle.boards.proofs.anyone.Given as goal
 
 abbrev pub invariant-loop-i : goal.invariant-loop-i

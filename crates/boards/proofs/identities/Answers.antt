@@ -1,8 +1,6 @@
 -- `boards::identities` meets its contract: the numbers below i are those of the boards.
-use Prim.Native.Nat.{◌-◌}
 use native.Mathlib.Omega.{arith}
-use Rattle.boards.specs.Wire.{board_of}
-use Rattle.boards.proofs.Turns.{Identified, identified_start, identified_turn, identified_ended}
+use Rattle.boards.proofs.Turns.{identified_start, identified_turn, identified_ended}
 use Rattle.boards.proofs.identities.Goals as goal
 
 pub loop-i-init : goal.loop-i-init

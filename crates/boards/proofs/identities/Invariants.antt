@@ -1,7 +1,6 @@
 use Prim.Native.Nat.{◌-◌}
-use native.Mathlib.Omega.{arith}
 use Rattle.boards.specs.Wire.{board_of}
-use Rattle.boards.proofs.Turns.{Identified, identified_start, identified_turn, identified_ended}
+use Rattle.boards.proofs.Turns.{Identified}
 use Rattle.boards.proofs.identities.Given as goal
 
 abbrev pub invariant-loop-i : goal.invariant-loop-i

@@ -3,9 +3,8 @@ use Prim.Native.Nat.{◌<◌, ◌+◌, ◌-◌, ◌*◌, ◌^◌}
 use mathlib.Core.Path.{◌≡◌, ◌∙◌}
 use mathlib.Core.List.{map}
 use native.Mathlib.Omega.{arith}
-use borrow.Author.Rules.{rules}
 use Rattle.boards.specs.Wire.{board_of, stay_in}
-use Rattle.boards.proofs.Turns.{Hearing, hearing_start, hearing_stay, hearing_room, hearing_turn, hearing_ended, hear_identities}
+use Rattle.boards.proofs.Turns.{hearing_start, hearing_stay, hearing_room, hearing_turn, hearing_ended, hear_identities}
 use Rattle.boards.proofs.listen.Goals as goal
 use Rattle.boards.proofs.listen.Goals.{then-seen-eq0, else-seen-eq0}
 

@@ -1,12 +1,10 @@
 -- `boards::offer` meets its contract: the boards below i have answered, and those from i on are as they came.
-use Prim.Native.Nat.{◌≤◌, ◌-◌}
 use mathlib.Core.Path.{◌≡◌, refl, sym, ◌∙◌}
-use mathlib.Core.List.{zip_with}
 use native.Mathlib.Omega.{arith}
 use borrow.Author.Rules.{rules}
 use lib.ListN.{length}
 use Rattle.boards.specs.Wire.{takes, after_byte}
-use Rattle.lists.proofs.Zips.{zipping, zip_turn, zip_done}
+use Rattle.lists.proofs.Zips.{zip_turn, zip_done}
 use Rattle.boards.proofs.offer.Goals as goal
 
 pub loop-i-init : goal.loop-i-init

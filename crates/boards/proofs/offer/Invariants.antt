@@ -1,11 +1,9 @@
 use Prim.Native.Nat.{◌≤◌, ◌-◌}
-use mathlib.Core.Path.{◌≡◌, refl, sym, ◌∙◌}
+use mathlib.Core.Path.{◌≡◌}
 use mathlib.Core.List.{zip_with}
-use native.Mathlib.Omega.{arith}
-use borrow.Author.Rules.{rules}
 use lib.ListN.{length}
-use Rattle.boards.specs.Wire.{takes, after_byte}
-use Rattle.lists.proofs.Zips.{zipping, zip_turn, zip_done}
+use Rattle.boards.specs.Wire.{takes}
+use Rattle.lists.proofs.Zips.{zipping}
 use Rattle.boards.proofs.offer.Given as goal
 
 abbrev pub invariant-loop-i : goal.invariant-loop-i

@@ -1,7 +1,6 @@
 -- `boards::stay_in` meets its contract: a walk over the flags.
-use Prim.Native.Nat.{◌-◌}
 use native.Mathlib.Omega.{arith}
-use Rattle.boards.proofs.Turns.{Settled, settled_start, settled_leaves, settled_stays, settled_ended}
+use Rattle.boards.proofs.Turns.{settled_start, settled_leaves, settled_stays, settled_ended}
 use Rattle.boards.proofs.stay_in.Goals as goal
 use Rattle.boards.proofs.stay_in.Goals.{then-sent-i-eq1, else-sent-i-eq1}
 

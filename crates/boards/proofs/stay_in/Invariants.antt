@@ -1,7 +1,5 @@
 use Prim.Native.Nat.{◌-◌}
-use mathlib.Core.Logic.{⊎_elim}
-use native.Mathlib.Omega.{arith}
-use Rattle.boards.proofs.Turns.{Settled, settled_start, settled_leaves, settled_stays, settled_ended}
+use Rattle.boards.proofs.Turns.{Settled}
 use Rattle.boards.proofs.stay_in.Given as goal
 
 abbrev pub invariant-loop-i : goal.invariant-loop-i

@@ -1,5 +1,4 @@
 -- `boards::take` meets its contract.
-use borrow.Author.Rules.{rules}
 use Rattle.boards.proofs.take.Goals as goal
 
 pub returns-then-still-odd_ones : goal.returns-then-still-odd_ones

@@ -1,9 +1,7 @@
 -- `boards::waiting` meets its contract: the flags below i are those of the boards in play.
-use Prim.Native.Nat.{◌-◌}
 use mathlib.Core.Bool.{false}
 use native.Mathlib.Omega.{arith}
-use Rattle.lists.proofs.Edits.{Filled, filled_start, filled_turn, filled_whole}
-use Rattle.boards.specs.Wire.{waiting_first}
+use Rattle.lists.proofs.Edits.{filled_start, filled_turn, filled_whole}
 use Rattle.boards.proofs.Turns.{waiting_long, waiting_at}
 use Rattle.boards.proofs.waiting.Goals as goal
 

@@ -1,9 +1,6 @@
 use Prim.Native.Nat.{◌-◌}
-use mathlib.Core.Bool.{false}
-use native.Mathlib.Omega.{arith}
-use Rattle.lists.proofs.Edits.{Filled, filled_start, filled_turn, filled_whole}
+use Rattle.lists.proofs.Edits.{Filled}
 use Rattle.boards.specs.Wire.{waiting_first}
-use Rattle.boards.proofs.Turns.{waiting_long, waiting_at}
 use Rattle.boards.proofs.waiting.Given as goal
 
 abbrev pub invariant-loop-i : goal.invariant-loop-i

@@ -1,7 +1,6 @@
 -- `boards::wire_bit` meets its contract: a search among the boards.
-use Prim.Native.Nat.{◌-◌}
 use native.Mathlib.Omega.{arith}
-use Rattle.boards.proofs.Turns.{NoZero, zero_start, zero_turn, zero_found, zero_ended}
+use Rattle.boards.proofs.Turns.{zero_start, zero_turn, zero_found, zero_ended}
 use Rattle.boards.proofs.wire_bit.Goals as goal
 
 pub loop-i-init : goal.loop-i-init

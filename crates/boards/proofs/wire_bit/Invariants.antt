@@ -1,6 +1,5 @@
 use Prim.Native.Nat.{◌-◌}
-use native.Mathlib.Omega.{arith}
-use Rattle.boards.proofs.Turns.{NoZero, zero_start, zero_turn, zero_found, zero_ended}
+use Rattle.boards.proofs.Turns.{NoZero}
 use Rattle.boards.proofs.wire_bit.Given as goal
 
 abbrev pub invariant-loop-i : goal.invariant-loop-i

@@ -1,6 +1,5 @@
 -- `changes::emptied` meets its contract: a loop that takes out the last row until none is left.
-use Rattle.lists.proofs.Edits.{Gone, gone_start, gone_turn, gone_ended}
-use Rattle.rows.specs.Rows.{no_row}
+use Rattle.lists.proofs.Edits.{gone_start, gone_turn, gone_ended}
 use Rattle.changes.specs.Changes.{without}
 use native.Mathlib.Omega.{arith}
 use Rattle.changes.proofs.emptied.Goals as goal

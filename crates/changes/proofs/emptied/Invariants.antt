@@ -1,7 +1,5 @@
-use Rattle.lists.proofs.Edits.{Gone, gone_start, gone_turn, gone_ended}
+use Rattle.lists.proofs.Edits.{Gone}
 use Rattle.rows.specs.Rows.{no_row}
-use Rattle.changes.specs.Changes.{without}
-use native.Mathlib.Omega.{arith}
 use Rattle.changes.proofs.emptied.Given as goal
 
 abbrev pub invariant-loop-i : goal.invariant-loop-i

@@ -1,7 +1,6 @@
 -- `changes::moved` meets its contract.
 use borrow.Author.Tests.{lt-ltb, le-ltb}
 use Rattle.changes.specs.Changes.{moved}
-use borrow.Author.Rules.{rules}
 use Rattle.changes.proofs.moved.Goals as goal
 
 pub returns-then-place-ge32 : goal.returns-then-place-ge32

@@ -1,10 +1,7 @@
 -- `changes::place_for` meets its contract: a search loop.
 use Rattle.lists.proofs.Bools.{via}
-use Rattle.lists.proofs.Loops.{Find, find_start, find_turn, find_found, find_ended}
-use Rattle.rows.specs.Rows.{no_row}
-use Rattle.changes.specs.Changes.{comes_behind}
+use Rattle.lists.proofs.Loops.{find_start, find_turn, find_found, find_ended}
 use native.Mathlib.Omega.{arith}
-use Prim.Native.Nat.{◌-◌}
 use Rattle.changes.proofs.place_for.Goals as goal
 
 pub loop-i-init : goal.loop-i-init

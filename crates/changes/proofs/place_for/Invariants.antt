@@ -1,8 +1,6 @@
-use Rattle.lists.proofs.Bools.{via}
-use Rattle.lists.proofs.Loops.{Find, find_start, find_turn, find_found, find_ended}
+use Rattle.lists.proofs.Loops.{Find}
 use Rattle.rows.specs.Rows.{no_row}
 use Rattle.changes.specs.Changes.{comes_behind}
-use native.Mathlib.Omega.{arith}
 use Prim.Native.Nat.{◌-◌}
 use Rattle.changes.proofs.place_for.Given as goal
 

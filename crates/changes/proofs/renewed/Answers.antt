@@ -3,7 +3,6 @@ use mathlib.Core.Path.{refl, sym}
 use Rattle.lists.proofs.Edits.{set_none}
 use Rattle.changes.specs.Changes.{renewed}
 use native.Mathlib.Omega.{arith}
-use borrow.Author.Rules.{rules}
 use Rattle.changes.proofs.renewed.Goals as goal
 
 pub returns-then-place-ge32 : goal.returns-then-place-ge32

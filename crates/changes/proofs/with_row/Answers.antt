@@ -1,9 +1,7 @@
 -- `changes::with_row` meets its contract: a loop that puts the row in and moves the rest up by one.
-use Rattle.lists.proofs.Edits.{Shifting, shift_start, shift_turn, shift_ended}
-use Rattle.rows.specs.Rows.{no_row}
-use Rattle.changes.specs.Changes.{comes_behind, with_row}
+use Rattle.lists.proofs.Edits.{shift_start, shift_turn, shift_ended}
+use Rattle.changes.specs.Changes.{with_row}
 use native.Mathlib.Omega.{arith}
-use Prim.Native.Nat.{◌-◌}
 use Rattle.changes.proofs.with_row.Goals as goal
 
 pub loop-i-init : goal.loop-i-init

@@ -1,7 +1,6 @@
-use Rattle.lists.proofs.Edits.{Shifting, shift_start, shift_turn, shift_ended}
+use Rattle.lists.proofs.Edits.{Shifting}
 use Rattle.rows.specs.Rows.{no_row}
-use Rattle.changes.specs.Changes.{comes_behind, with_row}
-use native.Mathlib.Omega.{arith}
+use Rattle.changes.specs.Changes.{comes_behind}
 use Prim.Native.Nat.{◌-◌}
 use Rattle.changes.proofs.with_row.Given as goal
 

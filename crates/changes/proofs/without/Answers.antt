@@ -1,10 +1,9 @@
 -- `changes::without` meets its contract: a loop that closes up, then the last place.
 use mathlib.Core.Path.{sym, refl}
-use Rattle.lists.proofs.Edits.{Closing, close_start, close_turn, close_ended, remove_none}
+use Rattle.lists.proofs.Edits.{close_start, close_turn, close_ended, remove_none}
 use Rattle.rows.specs.Rows.{no_row}
 use Rattle.changes.specs.Changes.{without}
 use native.Mathlib.Omega.{arith}
-use Prim.Native.Nat.{◌-◌}
 use Rattle.changes.proofs.without.Goals as goal
 
 pub returns-then-place-ge32 : goal.returns-then-place-ge32

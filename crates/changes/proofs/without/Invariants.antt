@@ -1,8 +1,5 @@
-use mathlib.Core.Path.{sym, refl}
-use Rattle.lists.proofs.Edits.{Closing, close_start, close_turn, close_ended, remove_none}
+use Rattle.lists.proofs.Edits.{Closing}
 use Rattle.rows.specs.Rows.{no_row}
-use Rattle.changes.specs.Changes.{without}
-use native.Mathlib.Omega.{arith}
 use Prim.Native.Nat.{◌-◌}
 use Rattle.changes.proofs.without.Given as goal
 

@@ -1,7 +1,6 @@
 -- `free::can_assign` meets its contract.
 use Rattle.lists.proofs.Bools.{via}
 use Rattle.free.proofs.Laws.{no_room, no_ticket, can_by_address}
-use borrow.Author.Rules.{rules}
 use Rattle.free.proofs.can_assign.Goals as goal
 
 pub returns-then-full : goal.returns-then-full

@@ -1,7 +1,6 @@
 -- `free::full` meets its contract.
 use Rattle.lists.proofs.Bools.{same}
 use Rattle.free.specs.Free.{full}
-use borrow.Author.Rules.{rules}
 use Rattle.free.proofs.full.Goals as goal
 
 pub returns : goal.returns

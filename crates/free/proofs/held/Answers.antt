@@ -1,7 +1,6 @@
 -- `free::held` meets its contract: the marks tell of the rows below i.
-use Prim.Native.Nat.{◌-◌}
 use native.Mathlib.Omega.{arith}
-use Rattle.free.proofs.Laws.{Marked, marks_start, marks_fits, marks_turn, marks_skip, marks_ended}
+use Rattle.free.proofs.Laws.{marks_start, marks_fits, marks_turn, marks_skip, marks_ended}
 use Rattle.free.proofs.held.Goals as goal
 use Rattle.free.proofs.held.Goals.{then-here, else-here}
 

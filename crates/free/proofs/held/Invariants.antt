@@ -1,7 +1,5 @@
 use Prim.Native.Nat.{◌-◌}
-use mathlib.Core.Logic.{⊎_elim}
-use native.Mathlib.Omega.{arith}
-use Rattle.free.proofs.Laws.{Marked, marks_start, marks_fits, marks_turn, marks_skip, marks_ended}
+use Rattle.free.proofs.Laws.{Marked}
 use Rattle.free.proofs.held.Given as goal
 
 abbrev pub invariant-loop-i : goal.invariant-loop-i

@@ -1,7 +1,6 @@
 -- `free::is_free` meets its contract.
 use mathlib.Core.Path.{sym, ◌∙◌}
 use Rattle.free.specs.Free.{is_free}
-use borrow.Author.Rules.{rules}
 use Rattle.free.proofs.is_free.Goals as goal
 
 pub returns-then-is_open : goal.returns-then-is_open

@@ -1,10 +1,9 @@
 -- `free::lowest_free` meets its contract: a search loop over the addresses, by the marks.
-use Rattle.lists.proofs.Bools.{via, and}
-use Rattle.lists.proofs.Numbers.{First, first_start, first_turn, first_found, first_ended}
-use Rattle.free.proofs.Laws.{open_unmarked, lowest_by_marks}
+use Rattle.lists.proofs.Bools.{via}
+use Rattle.lists.proofs.Numbers.{first_start, first_turn, first_found, first_ended}
+use Rattle.free.proofs.Laws.{lowest_by_marks}
 use mathlib.Core.Path.{◌∙◌}
 use native.Mathlib.Omega.{arith}
-use Prim.Native.Nat.{◌-◌}
 use Rattle.free.proofs.lowest_free.Goals as goal
 use Rattle.free.proofs.lowest_free.Goals.{then-is_open+else-not-marks-at, else-is_open}
 

@@ -1,9 +1,5 @@
-use Rattle.lists.proofs.Bools.{via, and}
-use Rattle.lists.proofs.Numbers.{First, first_start, first_turn, first_found, first_ended}
-use Rattle.free.proofs.Laws.{open_unmarked, lowest_by_marks}
-use mathlib.Core.Logic.{⊎_elim}
-use mathlib.Core.Path.{◌∙◌}
-use native.Mathlib.Omega.{arith}
+use Rattle.lists.proofs.Numbers.{First}
+use Rattle.free.proofs.Laws.{open_unmarked}
 use Prim.Native.Nat.{◌-◌}
 use Rattle.free.proofs.lowest_free.Given as goal
 

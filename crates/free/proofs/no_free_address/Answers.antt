@@ -1,6 +1,5 @@
 -- `free::no_free_address` meets its contract.
 use Rattle.free.proofs.Laws.{lowest_none}
-use borrow.Author.Rules.{rules}
 use Rattle.free.proofs.no_free_address.Goals as goal
 
 pub returns : goal.returns

@@ -1,7 +1,6 @@
 -- `machine::answered` meets its contract: one way for each moment.
 use Rattle.machine.proofs.Laws.{call_refused, call_passed, answer_at_lem, step_right, offered_ticket, direct_ticket}
 use Rattle.machine.specs.Calls.{answered}
-use borrow.Author.Rules.{rules}
 use Rattle.machine.proofs.answered.Goals as goal
 
 pub returns-then-refusal-ne0 : goal.returns-then-refusal-ne0

@@ -1,7 +1,6 @@
 -- `machine::begun` meets its contract.
 use Rattle.machine.proofs.Laws.{call_refused, call_passed}
 use Rattle.machine.specs.Calls.{begun}
-use borrow.Author.Rules.{rules}
 use Rattle.machine.proofs.begun.Goals as goal
 
 pub returns-then-refusal-ne0 : goal.returns-then-refusal-ne0

@@ -1,7 +1,6 @@
 -- `machine::given_up` meets its contract.
 use Rattle.machine.proofs.Laws.{call_refused, call_passed}
 use Rattle.machine.specs.Calls.{given_up}
-use borrow.Author.Rules.{rules}
 use Rattle.machine.proofs.given_up.Goals as goal
 
 pub returns-then-refusal-ne0 : goal.returns-then-refusal-ne0

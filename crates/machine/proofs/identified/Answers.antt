@@ -1,7 +1,6 @@
 -- `machine::identified` meets its contract.
 use Rattle.machine.proofs.Laws.{call_refused, call_passed, eight_heard}
 use Rattle.machine.specs.Calls.{identified}
-use borrow.Author.Rules.{rules}
 use Rattle.machine.proofs.identified.Goals as goal
 
 pub returns-then-refusal-ne0 : goal.returns-then-refusal-ne0

@@ -1,7 +1,6 @@
 -- `machine::joined` meets its contract.
 use Rattle.machine.proofs.Laws.{call_refused, call_passed}
 use Rattle.machine.specs.Calls.{joined}
-use borrow.Author.Rules.{rules}
 use Rattle.machine.proofs.joined.Goals as goal
 
 pub returns-then-refusal-ne0 : goal.returns-then-refusal-ne0

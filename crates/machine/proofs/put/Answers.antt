@@ -1,7 +1,6 @@
 -- `machine::put` meets its contract: a loop that copies.
-use Rattle.lists.proofs.Edits.{Copied, copy_start, copy_turn, copy_length, copy_ended}
+use Rattle.lists.proofs.Edits.{copy_start, copy_turn, copy_length, copy_ended}
 use native.Mathlib.Omega.{arith}
-use Prim.Native.Nat.{◌-◌}
 use Rattle.machine.proofs.put.Goals as goal
 
 pub loop-i-init : goal.loop-i-init

@@ -1,5 +1,4 @@
-use Rattle.lists.proofs.Edits.{Copied, copy_start, copy_turn, copy_length, copy_ended}
-use native.Mathlib.Omega.{arith}
+use Rattle.lists.proofs.Edits.{Copied}
 use Prim.Native.Nat.{◌-◌}
 use Rattle.machine.proofs.put.Given as goal
 

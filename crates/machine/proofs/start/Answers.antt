@@ -1,6 +1,5 @@
 -- `machine::start` meets its contract.
 use Rattle.machine.proofs.Laws.{start_told}
-use borrow.Author.Rules.{rules}
 use Rattle.machine.proofs.start.Goals as goal
 
 pub returns : goal.returns

@@ -1,7 +1,6 @@
 -- `parity::answer_cell` meets its contract: each branch has its answer.
 use mathlib.Core.Path.{sym}
 use native.Mathlib.Nat.{add-zero}
-use borrow.Author.Rules.{rules}
 use Rattle.parity.proofs.answer_cell.Goals as goal
 
 pub returns-then-answered : goal.returns-then-answered

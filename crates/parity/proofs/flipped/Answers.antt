@@ -1,5 +1,4 @@
 -- `parity::flipped` meets its contract: a flip below 8 is one, any other none.
-use borrow.Author.Rules.{rules}
 use borrow.Author.Tests.{lt-ltb, le-ltb}
 use Rattle.parity.proofs.flipped.Goals as goal
 

@@ -2,7 +2,6 @@
 use mathlib.Core.Path.{◌≡◌}
 use Prim.Native.Nat.{ℕ, ◌<◌}
 use lib.Count.{ones_in}
-use borrow.Author.Rules.{rules}
 use Rattle.lists.proofs.Tables.{tabled}
 use Rattle.parity.specs.Parity.{parity, odd_bit}
 use Rattle.parity.proofs.Laws.{odd_bit_lt}

@@ -1,5 +1,4 @@
 -- `parity::odd_ones` meets its contract: the ninth bit is 0 just where the ones are odd already.
-use borrow.Author.Rules.{rules}
 use Rattle.parity.proofs.Laws.{odd_bit_zero}
 use Rattle.parity.proofs.odd_ones.Goals as goal
 

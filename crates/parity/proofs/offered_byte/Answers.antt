@@ -1,6 +1,5 @@
 -- `parity::offered_byte` meets its contract: the ninth bit of the address above a 0 is the offered byte's own bit.
 use native.Mathlib.Nat.{add-zero}
-use borrow.Author.Rules.{rules}
 use Rattle.parity.proofs.Laws.{own_bit}
 use Rattle.parity.proofs.offered_byte.Goals as goal
 

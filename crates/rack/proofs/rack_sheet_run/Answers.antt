@@ -1,7 +1,6 @@
 -- `rack::rack_sheet_run` meets its contract: a listing's length is at most 1,100, so that the cast keeps it.
 use mathlib.Core.Path.{ap}
 use native.Mathlib.Omega.{arith}
-use borrow.Author.Rules.{rules}
 use Rattle.rack.specs.Packed.{sheet_number}
 use Rattle.rack.proofs.Laws.{listing_short}
 use Rattle.rack.proofs.rack_sheet_run.Goals as goal

@@ -1,6 +1,5 @@
 -- `rack::rack_slot_test` meets its contract: the cast makes 1 of true and 0 of false, as the definition does.
 use native.Mathlib.Omega.{arith}
-use borrow.Author.Rules.{rules}
 use Rattle.rack.proofs.Laws.{as_number, one_bit}
 use Rattle.rack.proofs.rack_slot_test.Goals as goal
 

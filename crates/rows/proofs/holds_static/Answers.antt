@@ -1,9 +1,7 @@
 -- `rows::holds_static` meets its contract: a search loop.
 use Rattle.lists.proofs.Bools.{via}
-use Rattle.lists.proofs.Loops.{Any, any_start, any_turn, any_found, any_ended}
-use Rattle.rows.specs.Rows.{has_static, no_row}
+use Rattle.lists.proofs.Loops.{any_start, any_turn, any_found, any_ended}
 use native.Mathlib.Omega.{arith}
-use Prim.Native.Nat.{◌-◌}
 use Rattle.rows.proofs.holds_static.Goals as goal
 
 pub loop-i-init : goal.loop-i-init

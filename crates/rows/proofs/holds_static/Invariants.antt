@@ -1,7 +1,5 @@
-use Rattle.lists.proofs.Bools.{via}
-use Rattle.lists.proofs.Loops.{Any, any_start, any_turn, any_found, any_ended}
+use Rattle.lists.proofs.Loops.{Any}
 use Rattle.rows.specs.Rows.{has_static, no_row}
-use native.Mathlib.Omega.{arith}
 use Prim.Native.Nat.{◌-◌}
 use Rattle.rows.proofs.holds_static.Given as goal
 

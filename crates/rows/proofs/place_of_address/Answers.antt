@@ -1,9 +1,7 @@
 -- `rows::place_of_address` meets its contract: a search loop.
 use Rattle.lists.proofs.Bools.{via}
-use Rattle.lists.proofs.Loops.{Find, find_start, find_turn, find_found, find_ended}
-use Rattle.rows.specs.Rows.{has_address, no_row}
+use Rattle.lists.proofs.Loops.{find_start, find_turn, find_found, find_ended}
 use native.Mathlib.Omega.{arith}
-use Prim.Native.Nat.{◌-◌}
 use Rattle.rows.proofs.place_of_address.Goals as goal
 
 pub loop-i-init : goal.loop-i-init

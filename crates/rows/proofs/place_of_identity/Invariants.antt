@@ -1,7 +1,5 @@
-use Rattle.lists.proofs.Bools.{via}
-use Rattle.lists.proofs.Loops.{Find, find_start, find_turn, find_found, find_ended}
+use Rattle.lists.proofs.Loops.{Find}
 use Rattle.rows.specs.Rows.{has_identity, no_row}
-use native.Mathlib.Omega.{arith}
 use Prim.Native.Nat.{◌-◌}
 use Rattle.rows.proofs.place_of_identity.Given as goal
 

@@ -1,6 +1,6 @@
 -- `rows::used_rows` meets its contract: a loop that counts.
 use Rattle.lists.proofs.Bools.{via}
-use Rattle.lists.proofs.Loops.{Count, count_start, count_turn, count_skip, count_ended}
+use Rattle.lists.proofs.Loops.{count_start, count_turn, count_skip, count_ended}
 use native.Mathlib.Omega.{arith}
 use Rattle.rows.proofs.used_rows.Goals as goal
 use Rattle.rows.proofs.used_rows.Goals.{then-in_use, else-in_use}

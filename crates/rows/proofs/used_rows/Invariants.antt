@@ -1,8 +1,5 @@
-use mathlib.Core.Logic.{⊎_elim}
-use Rattle.lists.proofs.Bools.{via}
-use Rattle.lists.proofs.Loops.{Count, count_start, count_turn, count_skip, count_ended}
+use Rattle.lists.proofs.Loops.{Count}
 use Rattle.rows.specs.Rows.{in_use, no_row}
-use native.Mathlib.Omega.{arith}
 use Prim.Native.Nat.{◌-◌}
 use Rattle.rows.proofs.used_rows.Given as goal
 

@@ -1,9 +1,7 @@
 -- `sheet::boards` meets its contract: a loop over the boards.
-use Prim.Native.Nat.{◌-◌}
-use borrow.Author.Rules.{rules}
 use native.Mathlib.Omega.{arith}
 use Rattle.sheet.proofs.Bodies.{facts_inside}
-use Rattle.sheet.proofs.Placing.{Placing, place_start, place_inside, place_turn, place_ended}
+use Rattle.sheet.proofs.Placing.{place_start, place_inside, place_turn, place_ended}
 use Rattle.sheet.proofs.boards.Goals as goal
 
 pub overflow_add-first : goal.overflow_add-first

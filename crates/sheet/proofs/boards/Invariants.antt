@@ -1,8 +1,5 @@
 use Prim.Native.Nat.{◌-◌}
-use borrow.Author.Rules.{rules}
-use native.Mathlib.Omega.{arith}
-use Rattle.sheet.proofs.Bodies.{facts_inside}
-use Rattle.sheet.proofs.Placing.{Placing, place_start, place_inside, place_turn, place_ended}
+use Rattle.sheet.proofs.Placing.{Placing}
 use Rattle.sheet.proofs.boards.Given as goal
 
 abbrev pub invariant-loop-i : goal.invariant-loop-i

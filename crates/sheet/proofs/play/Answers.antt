@@ -1,5 +1,4 @@
 -- `sheet::play` meets its contract: the flips lie behind the boards.
-use borrow.Author.Rules.{rules}
 use native.Mathlib.Omega.{arith}
 use Rattle.sheet.proofs.Bodies.{boards_inside}
 use Rattle.sheet.proofs.Told.{play_told}

@@ -1,5 +1,4 @@
 -- `sheet::start` meets its contract: the body of the facts lies within the sheet.
-use borrow.Author.Rules.{rules}
 use native.Mathlib.Omega.{arith}
 use Rattle.sheet.proofs.Bodies.{facts_inside}
 use Rattle.sheet.proofs.Told.{start_told}

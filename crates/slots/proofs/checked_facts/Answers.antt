@@ -1,6 +1,5 @@
 -- `slots::checked_facts` meets its contract: a set of another length is not right, and one of 16 bytes is judged as it came.
 use mathlib.Core.Path.{sym, ◌∙◌}
-use borrow.Author.Rules.{rules}
 use Rattle.slots.proofs.Laws.{checked_yes, checked_no, legacy_length}
 use Rattle.slots.proofs.checked_facts.Goals as goal
 

@@ -1,5 +1,4 @@
 -- `slots::is_open` meets its contract.
-use borrow.Author.Rules.{rules}
 use Rattle.slots.specs.Slots.{is_open}
 use Rattle.slots.proofs.is_open.Goals as goal
 

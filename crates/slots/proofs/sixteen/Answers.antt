@@ -1,9 +1,7 @@
 -- `slots::sixteen` meets its contract: a loop that fills an array with the slice's bytes.
-use Prim.Native.Nat.{◌-◌}
 use mathlib.Core.Path.{refl}
 use native.Mathlib.Omega.{arith}
-use borrow.Author.Rules.{rules}
-use Rattle.lists.proofs.Edits.{Filled, filled_start, filled_turn, filled_whole}
+use Rattle.lists.proofs.Edits.{filled_start, filled_turn, filled_whole}
 use Rattle.slots.proofs.sixteen.Goals as goal
 
 pub loop-i-init : goal.loop-i-init

@@ -1,5 +1,4 @@
 -- `slots::slot_test` meets its contract: one law for each of its three ways.
-use borrow.Author.Rules.{rules}
 use Rattle.slots.proofs.Laws.{slot_wrong_facts, slot_too_high, slot_told}
 use Rattle.slots.proofs.slot_test.Goals as goal
 

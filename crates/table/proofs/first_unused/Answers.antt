@@ -1,8 +1,6 @@
 -- `table::first_unused` meets its contract: a search loop.
-use Prim.Native.Nat.{◌-◌}
-use Rattle.rows.specs.Rows.{no_row}
-use Rattle.lists.proofs.Loops.{Find, find_start, find_turn, find_found, find_ended}
-use Rattle.table.proofs.Laws.{unused, unused_here, used_here}
+use Rattle.lists.proofs.Loops.{find_start, find_turn, find_found, find_ended}
+use Rattle.table.proofs.Laws.{unused_here, used_here}
 use native.Mathlib.Omega.{arith}
 use Rattle.table.proofs.first_unused.Goals as goal
 

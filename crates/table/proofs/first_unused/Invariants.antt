@@ -1,8 +1,7 @@
 use Prim.Native.Nat.{◌-◌}
 use Rattle.rows.specs.Rows.{no_row}
-use Rattle.lists.proofs.Loops.{Find, find_start, find_turn, find_found, find_ended}
-use Rattle.table.proofs.Laws.{unused, unused_here, used_here}
-use native.Mathlib.Omega.{arith}
+use Rattle.lists.proofs.Loops.{Find}
+use Rattle.table.proofs.Laws.{unused}
 use Rattle.table.proofs.first_unused.Given as goal
 
 abbrev pub invariant-loop-i : goal.invariant-loop-i

@@ -1,6 +1,5 @@
 -- `table::row_right` meets its contract.
 use borrow.Author.Tests.{eq-eqb, ne_eqb}
-use borrow.Author.Rules.{rules}
 use Rattle.table.proofs.row_right.Goals as goal
 
 pub returns-then-r-ne0 : goal.returns-then-r-ne0

@@ -1,13 +1,8 @@
 -- `table::rows_in_order` meets its contract: a search loop in a search loop, up to the first unused place.
-use Prim.Native.Nat.{◌+◌, ◌-◌}
 use mathlib.Core.Path.{sym}
-use lib.ListN.{drop}
-use Rattle.lists.specs.Lists.{all}
 use Rattle.lists.proofs.Bools.{via}
 use borrow.Author.Tests.{not-true, not-false}
-use Rattle.rows.specs.Rows.{no_row}
-use Rattle.lists.proofs.Loops.{All, all_start_at, all_turn, all_found, Pairs, pairs_start, pairs_found}
-use Rattle.table.specs.Sound.{in_order}
+use Rattle.lists.proofs.Loops.{all_start_at, all_turn, all_found, pairs_start, pairs_found}
 use Rattle.table.proofs.Laws.{row_behind_unused, pairs_turn_unused, pairs_ended_unused}
 use native.Mathlib.Omega.{arith}
 use Rattle.table.proofs.rows_in_order.Goals as goal

@@ -1,14 +1,9 @@
 use Prim.Native.Nat.{◌+◌, ◌-◌}
-use mathlib.Core.Path.{sym}
 use lib.ListN.{drop}
 use Rattle.lists.specs.Lists.{all}
-use Rattle.lists.proofs.Bools.{via}
-use borrow.Author.Tests.{not-true, not-false}
 use Rattle.rows.specs.Rows.{no_row}
-use Rattle.lists.proofs.Loops.{All, all_start_at, all_turn, all_found, Pairs, pairs_start, pairs_found}
+use Rattle.lists.proofs.Loops.{All, Pairs}
 use Rattle.table.specs.Sound.{in_order}
-use Rattle.table.proofs.Laws.{row_behind_unused, pairs_turn_unused, pairs_ended_unused}
-use native.Mathlib.Omega.{arith}
 use Rattle.table.proofs.rows_in_order.Given as goal
 
 abbrev pub invariant-loop-j : goal.invariant-loop-j

@@ -1,12 +1,8 @@
 -- `table::rows_right` meets its contract: a search loop.
-use Rattle.lists.specs.Lists.{all}
 use Rattle.lists.proofs.Bools.{via}
 use borrow.Author.Tests.{not-true, not-false}
-use Rattle.rows.specs.Rows.{no_row}
-use Rattle.lists.proofs.Loops.{All, all_start, all_turn, all_found, all_ended}
-use Rattle.table.specs.Sound.{row_right}
+use Rattle.lists.proofs.Loops.{all_start, all_turn, all_found, all_ended}
 use native.Mathlib.Omega.{arith}
-use Prim.Native.Nat.{◌-◌}
 use Rattle.table.proofs.rows_right.Goals as goal
 
 pub loop-i-init : goal.loop-i-init

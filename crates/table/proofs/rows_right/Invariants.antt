@@ -1,10 +1,7 @@
 use Rattle.lists.specs.Lists.{all}
-use Rattle.lists.proofs.Bools.{via}
-use borrow.Author.Tests.{not-true, not-false}
 use Rattle.rows.specs.Rows.{no_row}
-use Rattle.lists.proofs.Loops.{All, all_start, all_turn, all_found, all_ended}
+use Rattle.lists.proofs.Loops.{All}
 use Rattle.table.specs.Sound.{row_right}
-use native.Mathlib.Omega.{arith}
 use Prim.Native.Nat.{◌-◌}
 use Rattle.table.proofs.rows_right.Given as goal
 

@@ -1,6 +1,5 @@
 -- `table::static_allowed` meets its contract.
 use Rattle.lists.proofs.Bools.{same}
-use borrow.Author.Rules.{rules}
 use Rattle.table.proofs.static_allowed.Goals as goal
 
 pub returns : goal.returns

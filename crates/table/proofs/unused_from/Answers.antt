@@ -1,10 +1,6 @@
 -- `table::unused_from` meets its contract: a search loop.
-use Prim.Native.Nat.{◌-◌}
-use lib.ListN.{drop}
-use Rattle.lists.specs.Lists.{all}
-use Rattle.rows.specs.Rows.{no_row}
-use Rattle.lists.proofs.Loops.{All, all_start_at, all_turn, all_found, all_ended}
-use Rattle.table.proofs.Laws.{unused, unused_here, used_here}
+use Rattle.lists.proofs.Loops.{all_start_at, all_turn, all_found, all_ended}
+use Rattle.table.proofs.Laws.{unused_here, used_here}
 use native.Mathlib.Omega.{arith}
 use Rattle.table.proofs.unused_from.Goals as goal
 

@@ -1,5 +1,4 @@
 -- `bench::calls::bytes` meets its contract.
-use borrow.Author.Rules.{rules}
 use Rattle.lists.proofs.Bits.{bytes_eight}
 use Rattle.bench.proofs.calls.bytes.Goals as goal
 

@@ -1,7 +1,6 @@
 -- `bench::calls::identity` meets its contract: the machine is lent a part of the cells.
 use Rattle.machine.specs.Calls.{identified}
 use Rattle.bench.proofs.Lent.{lent_handed, lent_left}
-use borrow.Author.Rules.{rules}
 use Rattle.bench.proofs.calls.identity.Goals as goal
 
 pub returns : goal.returns

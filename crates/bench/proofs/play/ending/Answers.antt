@@ -1,7 +1,6 @@
 -- `bench::play::ending` meets its contract: a chain of tests.
 use borrow.Author.Tests.{not-true, not-false}
 use Rattle.lists.proofs.Bools.{chain}
-use borrow.Author.Rules.{rules}
 use Rattle.bench.proofs.play.ending.Goals as goal
 
 pub returns-then-not-is_idle : goal.returns-then-not-is_idle

@@ -1,7 +1,6 @@
 -- `bench::play::offered` meets its contract: two calls of the machine, and the byte that all boards see between them.
 use native.Mathlib.Omega.{arith}
 use Rattle.bench.proofs.Keeping.{answered_short, identified_short, offer-kept}
-use borrow.Author.Rules.{rules}
 use Rattle.bench.proofs.play.offered.Goals as goal
 
 pub overflow_add-at : goal.overflow_add-at

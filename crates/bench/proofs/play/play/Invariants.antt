@@ -1,8 +1,5 @@
 use Prim.Native.Nat.{◌-◌}
-use mathlib.Core.Path.{◌≡◌}
-use lib.ListN.{length}
-use Rattle.bench.proofs.Playing.{Playing, playing_start, playing_turn, played_long, may_play, played_idle, played_all}
-use borrow.Author.Rules.{rules}
+use Rattle.bench.proofs.Playing.{Playing}
 use Rattle.bench.proofs.play.play.Given as goal
 
 abbrev pub invariant-loop-i : goal.invariant-loop-i

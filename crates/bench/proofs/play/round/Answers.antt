@@ -2,8 +2,6 @@
 use mathlib.Core.Path.{◌≡◌}
 use native.Mathlib.Omega.{arith}
 use lib.ListN.{length}
-use borrow.Author.Tests.{not-true, not-false}
-use Rattle.bench.proofs.Places.{field_long}
 use Rattle.bench.proofs.Keeping.{answered_short, silent_kept, answered_kept}
 use borrow.Author.Rules.{rules}
 use Rattle.bench.proofs.play.round.Goals as goal

@@ -1,9 +1,6 @@
 -- `bench::refusals::address_over_127` meets its contract: a search loop.
-use Prim.Native.Nat.{◌-◌}
 use native.Mathlib.Omega.{arith}
-use lib.Dec.{ltb}
-use Rattle.lists.proofs.Loops.{AnyOf, any_of_start, any_of_turn, any_of_found, any_of_ended}
-use Rattle.boards.specs.declared.Board.{Board}
+use Rattle.lists.proofs.Loops.{any_of_start, any_of_turn, any_of_found, any_of_ended}
 use Rattle.bench.proofs.refusals.address_over_127.Goals as goal
 
 pub loop-i-init : goal.loop-i-init

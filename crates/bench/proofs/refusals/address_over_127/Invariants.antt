@@ -1,7 +1,6 @@
 use Prim.Native.Nat.{◌-◌}
-use native.Mathlib.Omega.{arith}
 use lib.Dec.{ltb}
-use Rattle.lists.proofs.Loops.{AnyOf, any_of_start, any_of_turn, any_of_found, any_of_ended}
+use Rattle.lists.proofs.Loops.{AnyOf}
 use Rattle.boards.specs.declared.Board.{Board}
 use Rattle.bench.proofs.refusals.address_over_127.Given as goal
 

@@ -1,10 +1,7 @@
 -- `bench::refusals::flip_over_8` meets its contract: a search loop.
-use Prim.Native.Nat.{◌-◌}
 use native.Mathlib.Omega.{arith}
-use lib.Dec.{ltb}
-use lib.ListN.{length}
 use borrow.Author.Tests.{lt-ltb, le-ltb}
-use Rattle.lists.proofs.Loops.{Any, any_start, any_turn, any_found, any_ended}
+use Rattle.lists.proofs.Loops.{any_start, any_turn, any_found, any_ended}
 use Rattle.bench.proofs.refusals.flip_over_8.Goals as goal
 
 pub loop-i-init : goal.loop-i-init

@@ -1,9 +1,7 @@
 use Prim.Native.Nat.{◌-◌}
-use native.Mathlib.Omega.{arith}
 use lib.Dec.{ltb}
 use lib.ListN.{length}
-use borrow.Author.Tests.{lt-ltb, le-ltb}
-use Rattle.lists.proofs.Loops.{Any, any_start, any_turn, any_found, any_ended}
+use Rattle.lists.proofs.Loops.{Any}
 use Rattle.bench.proofs.refusals.flip_over_8.Given as goal
 
 abbrev pub invariant-loop-i : goal.invariant-loop-i

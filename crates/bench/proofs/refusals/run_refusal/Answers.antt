@@ -4,7 +4,6 @@ use Rattle.begins.specs.Begins.{choice_refusal}
 use Rattle.machine.proofs.Laws.{rest_refused, rest_passed}
 use Rattle.bench.specs.Runs.{run_refusal}
 use Rattle.bench.proofs.Refused.{flip-refused, begin_asked}
-use borrow.Author.Rules.{rules}
 use Rattle.bench.proofs.refusals.run_refusal.Goals as goal
 
 pub returns-then-room-lt-MOST_CELLS : goal.returns-then-room-lt-MOST_CELLS

@@ -1,5 +1,4 @@
 -- `lent::copies::load` meets its contract: the first i places hold the first i boards.
-use mathlib.Core.Path.{◌∙◌}
 use native.Mathlib.Omega.{arith}
 use Rattle.std.proofs.Common.{length-take-le}
 use Rattle.lists.proofs.Edits.{copy_start, copy_turn, copy_ended}

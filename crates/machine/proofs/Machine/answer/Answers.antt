@@ -1,6 +1,5 @@
 -- `machine::Machine::answer` meets its contract.
 use Rattle.machine.proofs.Emits.{handed, left_behind, answered_fits}
-use borrow.Author.Rules.{rules}
 use Rattle.machine.proofs.Machine.answer.Goals as goal
 
 pub emit-requires : goal.emit-requires

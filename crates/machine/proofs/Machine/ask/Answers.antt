@@ -1,6 +1,5 @@
 -- `machine::Machine::ask` meets its contract.
 use Rattle.machine.proofs.Laws.{ask_refused, ask_told}
-use borrow.Author.Rules.{rules}
 use Rattle.machine.proofs.Machine.ask.Goals as goal
 
 pub returns-then-refusal-ne0 : goal.returns-then-refusal-ne0

@@ -1,6 +1,5 @@
 -- `machine::Machine::begin` meets its contract.
 use Rattle.machine.proofs.Emits.{handed, left_behind, begun_fits}
-use borrow.Author.Rules.{rules}
 use Rattle.machine.proofs.Machine.begin.Goals as goal
 
 pub emit-requires : goal.emit-requires

@@ -1,6 +1,5 @@
 -- `machine::Machine::give_up` meets its contract.
 use Rattle.machine.proofs.Emits.{handed, left_behind, given_up_fits}
-use borrow.Author.Rules.{rules}
 use Rattle.machine.proofs.Machine.give_up.Goals as goal
 
 pub emit-requires : goal.emit-requires

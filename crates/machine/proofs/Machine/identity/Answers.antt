@@ -1,6 +1,5 @@
 -- `machine::Machine::identity` meets its contract.
 use Rattle.machine.proofs.Emits.{handed, left_behind, identified_fits}
-use borrow.Author.Rules.{rules}
 use Rattle.machine.proofs.Machine.identity.Goals as goal
 
 pub emit-requires : goal.emit-requires

@@ -1,6 +1,5 @@
 -- `machine::Machine::join` meets its contract.
 use Rattle.machine.proofs.Emits.{handed, left_behind, joined_fits}
-use borrow.Author.Rules.{rules}
 use Rattle.machine.proofs.Machine.join.Goals as goal
 
 pub emit-requires : goal.emit-requires

@@ -1,7 +1,6 @@
 -- `machine::Machine::retire` meets its contract.
 use Rattle.machine.proofs.Laws.{retire_refused, retire_passed}
 use Rattle.machine.specs.Calls.{retired}
-use borrow.Author.Rules.{rules}
 use Rattle.machine.proofs.Machine.retire.Goals as goal
 
 pub returns-then-refusal-ne0 : goal.returns-then-refusal-ne0

@@ -1,7 +1,6 @@
 -- `machine::identities::cells` meets its contract: a loop over the bytes.
-use Rattle.machine.proofs.Bytes.{Celled, celled_start, celled_turn, celled_ended}
+use Rattle.machine.proofs.Bytes.{celled_start, celled_turn, celled_ended}
 use native.Mathlib.Omega.{arith}
-use Prim.Native.Nat.{◌-◌}
 use Rattle.machine.proofs.identities.cells.Goals as goal
 
 pub loop-i-init : goal.loop-i-init

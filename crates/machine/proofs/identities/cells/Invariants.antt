@@ -1,5 +1,4 @@
-use Rattle.machine.proofs.Bytes.{Celled, celled_start, celled_turn, celled_ended}
-use native.Mathlib.Omega.{arith}
+use Rattle.machine.proofs.Bytes.{Celled}
 use Prim.Native.Nat.{◌-◌}
 use Rattle.machine.proofs.identities.cells.Given as goal
 

@@ -1,7 +1,6 @@
 -- `machine::identities::number` meets its contract: a loop over the bytes.
-use Rattle.machine.proofs.Bytes.{Reading, reading_start, reading_room, reading_turn, reading_ended}
+use Rattle.machine.proofs.Bytes.{reading_start, reading_room, reading_turn, reading_ended}
 use native.Mathlib.Omega.{arith}
-use Prim.Native.Nat.{◌-◌}
 use Rattle.machine.proofs.identities.number.Goals as goal
 
 pub loop-i-init : goal.loop-i-init

@@ -1,5 +1,4 @@
-use Rattle.machine.proofs.Bytes.{Reading, reading_start, reading_room, reading_turn, reading_ended}
-use native.Mathlib.Omega.{arith}
+use Rattle.machine.proofs.Bytes.{Reading}
 use Prim.Native.Nat.{◌-◌}
 use Rattle.machine.proofs.identities.number.Given as goal
 

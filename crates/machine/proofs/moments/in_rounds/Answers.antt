@@ -1,6 +1,5 @@
 -- `machine::moments::in_rounds` meets its contract.
 use Rattle.lists.proofs.Bools.{same}
-use borrow.Author.Rules.{rules}
 use Rattle.machine.proofs.moments.in_rounds.Goals as goal
 
 pub returns : goal.returns

@@ -1,7 +1,6 @@
 -- `machine::moments::machine_right` meets its contract.
 use Rattle.lists.proofs.Bools.{via}
 use Rattle.machine.proofs.Laws.{right_sound, right_unsound}
-use borrow.Author.Rules.{rules}
 use Rattle.machine.proofs.moments.machine_right.Goals as goal
 
 pub returns-then-is_sound : goal.returns-then-is_sound

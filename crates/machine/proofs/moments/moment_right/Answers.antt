@@ -1,7 +1,6 @@
 -- `machine::moments::moment_right` meets its contract: one rule for each moment.
 use Rattle.lists.proofs.Bools.{same}
 use Rattle.machine.proofs.Laws.{moment_at}
-use borrow.Author.Rules.{rules}
 use Rattle.machine.proofs.moments.moment_right.Goals as goal
 
 pub returns-in-Idle : goal.returns-in-Idle

@@ -1,6 +1,5 @@
 -- `machine::moments::offers_right` meets its contract.
 use Rattle.lists.proofs.Bools.{same}
-use borrow.Author.Rules.{rules}
 use Rattle.machine.proofs.moments.offers_right.Goals as goal
 
 pub returns : goal.returns

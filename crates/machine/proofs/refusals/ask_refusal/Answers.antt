@@ -1,7 +1,6 @@
 -- `machine::refusals::ask_refusal` meets its contract.
 use Rattle.lists.proofs.Bools.{chain}
 use Rattle.machine.specs.Refusals.{ask_refusal}
-use borrow.Author.Rules.{rules}
 use Rattle.machine.proofs.refusals.ask_refusal.Goals as goal
 
 pub returns-then-not-machine_right : goal.returns-then-not-machine_right

@@ -2,7 +2,6 @@
 use Rattle.lists.proofs.Bools.{chain}
 use Rattle.machine.specs.Refusals.{join_refusal}
 use Rattle.machine.proofs.Laws.{step_refused, step_passed}
-use borrow.Author.Rules.{rules}
 use Rattle.machine.proofs.refusals.join_refusal.Goals as goal
 
 pub returns-then-refusal-ne0 : goal.returns-then-refusal-ne0

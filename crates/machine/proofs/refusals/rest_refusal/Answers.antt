@@ -1,6 +1,5 @@
 -- `machine::refusals::rest_refusal` meets its contract.
 use Rattle.machine.proofs.Laws.{rest_broken, rest_moving, rest_resting}
-use borrow.Author.Rules.{rules}
 use Rattle.machine.proofs.refusals.rest_refusal.Goals as goal
 
 pub returns-then-not-machine_right : goal.returns-then-not-machine_right

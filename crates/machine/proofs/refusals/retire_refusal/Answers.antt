@@ -1,7 +1,6 @@
 -- `machine::refusals::retire_refusal` meets its contract.
 use Rattle.machine.specs.Refusals.{retire_refusal}
 use Rattle.machine.proofs.Laws.{rest_refused, rest_passed}
-use borrow.Author.Rules.{rules}
 use Rattle.machine.proofs.refusals.retire_refusal.Goals as goal
 
 pub returns-then-refusal-ne0 : goal.returns-then-refusal-ne0

@@ -1,7 +1,6 @@
 -- `machine::refusals::step_refusal` meets its contract.
 use Rattle.lists.proofs.Bools.{chain}
 use Rattle.machine.specs.Refusals.{step_refusal}
-use borrow.Author.Rules.{rules}
 use Rattle.machine.proofs.refusals.step_refusal.Goals as goal
 
 pub returns-then-room-lt8 : goal.returns-then-room-lt8

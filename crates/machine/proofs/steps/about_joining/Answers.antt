@@ -1,7 +1,6 @@
 -- `machine::steps::about_joining` meets its contract.
 use lib.Count.{ones_in}
 use Rattle.parity.specs.Parity.{odd_bit, parity}
-use borrow.Author.Rules.{rules}
 use Rattle.machine.proofs.steps.about_joining.Goals as goal
 
 pub returns : goal.returns

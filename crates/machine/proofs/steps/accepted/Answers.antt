@@ -1,7 +1,6 @@
 -- `machine::steps::accepted` meets its contract.
 use Rattle.machine.specs.Steps.{round_rule}
 use Rattle.machine.specs.Steps.{accepted}
-use borrow.Author.Rules.{rules}
 use Rattle.machine.proofs.steps.accepted.Goals as goal
 
 pub returns : goal.returns

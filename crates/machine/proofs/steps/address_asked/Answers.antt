@@ -1,6 +1,5 @@
 -- `machine::steps::address_asked` meets its contract.
 use Rattle.lists.proofs.Bools.{chain}
-use borrow.Author.Rules.{rules}
 use Rattle.machine.proofs.steps.address_asked.Goals as goal
 
 pub returns-in-2 : goal.returns-in-2

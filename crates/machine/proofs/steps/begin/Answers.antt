@@ -1,6 +1,5 @@
 -- `machine::steps::begin` meets its contract.
 use Rattle.machine.specs.Steps.{beginning}
-use borrow.Author.Rules.{rules}
 use Rattle.machine.proofs.steps.begin.Goals as goal
 
 pub returns : goal.returns

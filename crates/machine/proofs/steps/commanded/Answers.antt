@@ -2,14 +2,12 @@
 use Prim.Native.Nat.{ℕ}
 use mathlib.Core.Path.{ap, ◌≡◌}
 use lib.Dec.{eqb}
-use borrow.Author.Tests.{ne_eqb}
 use lib.Count.{ones_in}
 use Rattle.parity.specs.Parity.{odd_bit, parity}
 use Rattle.machine.specs.Steps.{round_rule, about_joining}
 use Rattle.parity.specs.Cells.{allow_cell}
 use Rattle.machine.specs.Steps.{commanded}
 use Rattle.machine.specs.Calls.{laid}
-use borrow.Author.Rules.{rules}
 use Rattle.lists.proofs.Bools.{chain}
 use Rattle.machine.proofs.steps.commanded.Goals as goal
 

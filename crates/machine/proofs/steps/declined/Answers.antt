@@ -1,6 +1,5 @@
 -- `machine::steps::declined` meets its contract.
 use Rattle.machine.specs.Steps.{declined}
-use borrow.Author.Rules.{rules}
 use Rattle.machine.proofs.steps.declined.Goals as goal
 
 pub returns : goal.returns

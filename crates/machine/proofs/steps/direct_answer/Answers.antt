@@ -1,6 +1,5 @@
 -- `machine::steps::direct_answer` meets its contract.
 use Rattle.machine.specs.Steps.{direct_answer}
-use borrow.Author.Rules.{rules}
 use Rattle.machine.proofs.steps.direct_answer.Goals as goal
 
 pub returns-then-heard : goal.returns-then-heard

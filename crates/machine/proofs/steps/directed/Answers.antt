@@ -1,7 +1,6 @@
 -- `machine::steps::directed` meets its contract.
 use borrow.Author.Tests.{eq-eqb, ne_eqb}
 use Rattle.machine.specs.Steps.{directed}
-use borrow.Author.Rules.{rules}
 use Rattle.machine.proofs.steps.directed.Goals as goal
 
 pub ticketed-next-requires : goal.ticketed-next-requires

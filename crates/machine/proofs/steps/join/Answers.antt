@@ -1,7 +1,6 @@
 -- `machine::steps::join` meets its contract.
 use borrow.Author.Tests.{eq-eqb, ne_eqb}
 use Rattle.machine.specs.Steps.{joining}
-use borrow.Author.Rules.{rules}
 use Rattle.machine.proofs.steps.join.Goals as goal
 
 pub returns-then-choice-eq-JOIN_REFUSED : goal.returns-then-choice-eq-JOIN_REFUSED

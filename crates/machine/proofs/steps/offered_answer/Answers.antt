@@ -1,6 +1,5 @@
 -- `machine::steps::offered_answer` meets its contract.
 use Rattle.machine.proofs.Laws.{heard_yes, heard_no}
-use borrow.Author.Rules.{rules}
 use Rattle.machine.proofs.steps.offered_answer.Goals as goal
 
 pub returns-then-heard : goal.returns-then-heard

@@ -1,5 +1,4 @@
 -- `machine::steps::on_to_direct` meets its contract.
-use borrow.Author.Rules.{rules}
 use Rattle.machine.proofs.steps.on_to_direct.Goals as goal
 
 pub returns : goal.returns

@@ -1,6 +1,5 @@
 -- `machine::steps::onward_machine` meets its contract.
 use Rattle.lists.proofs.Bools.{chain}
-use borrow.Author.Rules.{rules}
 use Rattle.machine.proofs.steps.onward_machine.Goals as goal
 
 pub returns-then-on : goal.returns-then-on

@@ -1,6 +1,5 @@
 -- `machine::steps::opened_answer` meets its contract.
 use Rattle.machine.specs.Steps.{opened_answer}
-use borrow.Author.Rules.{rules}
 use Rattle.machine.proofs.steps.opened_answer.Goals as goal
 
 pub returns-then-heard : goal.returns-then-heard

@@ -1,6 +1,5 @@
 -- `machine::steps::round_answer` meets its contract.
 use Rattle.machine.specs.Steps.{round_answer}
-use borrow.Author.Rules.{rules}
 use Rattle.machine.proofs.steps.round_answer.Goals as goal
 
 pub returns-then-heard : goal.returns-then-heard

@@ -1,5 +1,4 @@
 -- `sheet::contents::bodies` meets its contract.
-use borrow.Author.Rules.{rules}
 use native.Mathlib.Omega.{arith}
 use Rattle.sheet.proofs.Tables.{right_parts}
 use Rattle.sheet.proofs.contents.bodies.Goals as goal

@@ -1,9 +1,7 @@
 -- `sheet::contents::entries_right` meets its contract: a loop over the entries.
-use Prim.Native.Nat.{◌-◌}
 use borrow.Author.Tests.{not-true, not-false}
-use native.Mathlib.Omega.{arith}
 use Rattle.lists.proofs.Bools.{via}
-use Rattle.sheet.proofs.Tables.{Walking, walking_start, walking_small, walking_turn, walking_stopped, walking_ended}
+use Rattle.sheet.proofs.Tables.{walking_start, walking_small, walking_turn, walking_stopped, walking_ended}
 use Rattle.sheet.proofs.contents.entries_right.Goals as goal
 
 pub loop-i-init : goal.loop-i-init

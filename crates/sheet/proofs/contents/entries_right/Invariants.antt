@@ -1,8 +1,5 @@
 use Prim.Native.Nat.{◌-◌}
-use borrow.Author.Tests.{not-true, not-false}
-use native.Mathlib.Omega.{arith}
-use Rattle.lists.proofs.Bools.{via}
-use Rattle.sheet.proofs.Tables.{Walking, walking_start, walking_small, walking_turn, walking_stopped, walking_ended}
+use Rattle.sheet.proofs.Tables.{Walking}
 use Rattle.sheet.proofs.contents.entries_right.Given as goal
 
 abbrev pub invariant-loop-i : goal.invariant-loop-i

@@ -1,6 +1,5 @@
 -- `sheet::contents::entry_at` meets its contract.
 use Prim.Native.Nat.{◌+◌, ◌*◌}
-use borrow.Author.Rules.{rules}
 use native.Mathlib.Omega.{arith}
 use Rattle.sheet.proofs.contents.entry_at.Goals as goal
 

@@ -1,5 +1,4 @@
 -- `sheet::contents::entry_right` meets its contract.
-use borrow.Author.Rules.{rules}
 use Rattle.lists.proofs.Bools.{same}
 use Rattle.sheet.specs.Sheet.{entry_right}
 use Rattle.sheet.proofs.contents.entry_right.Goals as goal

@@ -1,5 +1,4 @@
 -- `sheet::contents::is_right` meets its contract.
-use borrow.Author.Rules.{rules}
 use native.Mathlib.Omega.{arith}
 use mathlib.Core.Path.{sym, ◌∙◌}
 use Rattle.sheet.proofs.Tables.{not_right, right_rest, none_or_more, some_not_more}

@@ -1,5 +1,4 @@
 -- `sheet::contents::kind_right` meets its contract.
-use borrow.Author.Rules.{rules}
 use Rattle.lists.proofs.Bools.{chain}
 use Rattle.sheet.proofs.contents.kind_right.Goals as goal
 

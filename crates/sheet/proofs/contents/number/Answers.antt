@@ -1,7 +1,7 @@
 -- `sheet::contents::number` meets its contract: a loop over the bytes.
-use Prim.Native.Nat.{◌+◌, ◌-◌}
+use Prim.Native.Nat.{◌+◌}
 use native.Mathlib.Omega.{arith}
-use Rattle.sheet.proofs.Numbers.{Reading, reading_start, reading_room, reading_turn, reading_ended}
+use Rattle.sheet.proofs.Numbers.{reading_start, reading_room, reading_turn, reading_ended}
 use Rattle.sheet.proofs.contents.number.Goals as goal
 
 pub loop-i-init : goal.loop-i-init

@@ -1,6 +1,5 @@
-use Prim.Native.Nat.{◌+◌, ◌-◌}
-use native.Mathlib.Omega.{arith}
-use Rattle.sheet.proofs.Numbers.{Reading, reading_start, reading_room, reading_turn, reading_ended}
+use Prim.Native.Nat.{◌-◌}
+use Rattle.sheet.proofs.Numbers.{Reading}
 use Rattle.sheet.proofs.contents.number.Given as goal
 
 abbrev pub invariant-loop-i : goal.invariant-loop-i
