@@ -16,7 +16,7 @@ use std::io;
 
 fn main(rt: HostRuntime) -> io::Result<()> {
     let mut out = io::writer(&rt);
-    let mut text = [0u8; 65536];
+    let mut text = [0u8; lines::text::ROOM];
     let n = lines::text::read(&mut rt.reader(), &mut out, &mut text)?;
     script::play(&mut out, &text[..n])
 }

@@ -5,13 +5,16 @@ ghost use Rattle.std.specs.Io.{ReadsAtMost};
 use std::io;
 use std::io::{Read, Write};
 
-// Reads the script, and says how long it is. If it fills the text, there may be more of it, which is written.
+// The room for a script.
+pub const ROOM: usize = 65536;
+
+// Reads the script, and says how long it is. If it fills its room, there may be more of it, which is written.
 pub fn read<R: Read>(input: &mut R, out: &mut impl Write, text: &mut [u8]) -> io::Result<usize>
     ensures bound { ReadsAtMost result text.new }
     ensures bytes { IfOk result (λ n. IfSome (R.remaining input.old) (λ xs. take n text.new ≡ take (length text.new) xs)) }
 {
     let n = fills::read_full(input, text)?;
-    if n == 65536 {
+    if n == ROOM {
         writeln!(
             out,
             "the script has more than 65,535 bytes; what follows them is not played"
