@@ -5,9 +5,10 @@
  *
  * The functions are proved to give the answers described here, for every input.
  * Nothing proves the declarations: they are to be compared with the source,
- * crates/rack/src/lib.rt. The library is target/staticlib/librack.a, for x86-64
+ * crates/rack/src/lib.rt. The library is crates/rack/out/librack.a, for x86-64
  * and the System V calling convention. It keeps no state and needs no heap; of a
- * C library it needs memcpy and memset. A sheet run takes some 37 KB of stack.
+ * C library it needs memcpy and memset. A sheet run took some 37 KB of stack when
+ * that was last measured, with an older compiler.
  *
  * Each function gives one 32-bit number, the refusal times 65,536 plus the
  * value; a refused call has the value 0. The wrappers take the two apart.
