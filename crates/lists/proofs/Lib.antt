@@ -8,3 +8,4 @@ pub mod Edits
 pub mod Keeps
 pub mod Zips
 pub mod Buffers
+pub mod Library

@@ -1,16 +1,15 @@
 -- Definitions over a list, by tests on its elements. (The library's `any` and `all` do not compute outside their own module.)
 use Rattle.std.specs.Prelude.{ℕ, zero, suc, Bool, true, false, cond, ◌&&◌, ◌||◌, List, [], ◌∷◌, ◌++◌}
+use Rattle.std.specs.List.{list_any, list_all}
 
 module _ {A : Type 0} where
   -- whether some element passes the test
   abbrev pub any : (A → Bool) → List A → Bool
-  any p [] = false
-  any p (x ∷ xs) = p x || any p xs
+  any p xs = list_any p xs
 
   -- whether every element passes the test
   abbrev pub all : (A → Bool) → List A → Bool
-  all p [] = true
-  all p (x ∷ xs) = p x && all p xs
+  all p xs = list_all p xs
 
   -- whether every element stands in r to every later one
   abbrev pub pairwise : (A → A → Bool) → List A → Bool
