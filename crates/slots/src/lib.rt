@@ -11,7 +11,7 @@ use classes::{CLASS, CLOSED_BY_FLAG_1, NO_ADDRESS, OPEN, OPEN_WITH_FLAG_2};
 
 // What is known of a bus: the flag byte (1: an I2C high-speed device is present; 2: 03h may be used), the set of legacy I2C addresses (address a
 // is bit a % 8 of byte a / 8), and the last ticket given.
-#[derive(Clone, Copy)]
+#[derive(Clone, Copy, Debug, PartialEq, Eq)]
 pub struct Facts {
     pub flags: u8,
     pub legacy: [u8; 16],

@@ -11,6 +11,13 @@ ghost use Rattle.table.specs.Sound.{distinct};
 use rows::Row;
 use slots::Facts;
 
+// The bus facts, and the rows in order of address.
+#[derive(Clone, Copy, Debug, PartialEq, Eq)]
+pub struct Table {
+    pub facts: Facts,
+    pub rows: [Row; 32],
+}
+
 // Refusals of a ticket: 0 or above the last; given once, and now of no row.
 pub const TICKET_UNKNOWN: u8 = 8;
 
