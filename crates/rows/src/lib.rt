@@ -3,12 +3,12 @@
 // Nothing here judges the rows: every function takes any 32 of them.
 #![tactic(auto)]
 
-ghost use Rattle.std.specs.Prelude.{◌≡◌};
-ghost use Rattle.rows.specs.Rows.{in_use, used, has_address, has_ticket, has_identity, has_static, holds_address, holds_static, place_of_address, place_of_ticket, place_of_identity};
+ghost use Rattle.std.specs.Prelude.{◌≡◌, position};
+ghost use Rattle.rows.specs.Rows.{in_use, used, has_address, has_ticket, has_identity, has_static, holds_address, holds_static};
 
 // A board that has an address: its dynamic address, its ticket, its identity or the mark that it is unknown (then the number is 0), and the static
 // address that it was set from, 0 if none. A place whose address is 0 is unused.
-#[derive(Clone, Copy)]
+#[derive(Clone, Copy, Debug, PartialEq, Eq)]
 pub struct Row {
     pub address: u8,
     pub ticket: u32,
@@ -26,116 +26,78 @@ pub const NO_ROW: Row = Row {
     from_static: 0,
 };
 
-fn in_use(r: Row) -> bool
-    ensures { result ≡ in_use r }
-{
-    r.address != 0
-}
+impl Row {
+    // Whether a board stands here: no row has the address 0.
+    pub fn in_use(self) -> bool
+        ensures { result ≡ in_use self }
+    {
+        self.address != 0
+    }
 
-fn has_address(r: Row, address: u8) -> bool
-    ensures { result ≡ has_address address r }
-{
-    (r.address != 0) & (r.address == address)
-}
+    fn has_address(self, address: u8) -> bool
+        ensures { result ≡ has_address address self }
+    {
+        self.in_use() & (self.address == address)
+    }
 
-fn has_ticket(r: Row, ticket: u32) -> bool
-    ensures { result ≡ has_ticket ticket r }
-{
-    (r.address != 0) & (r.ticket == ticket)
-}
+    fn has_ticket(self, ticket: u32) -> bool
+        ensures { result ≡ has_ticket ticket self }
+    {
+        self.in_use() & (self.ticket == ticket)
+    }
 
-// Whether the row's identity is known and is this one.
-fn has_identity(r: Row, identity: u64) -> bool
-    ensures { result ≡ has_identity identity r }
-{
-    (r.address != 0) & !r.unknown & (r.identity == identity)
-}
+    // Whether the row's identity is known and is this one.
+    fn has_identity(self, identity: u64) -> bool
+        ensures { result ≡ has_identity identity self }
+    {
+        self.in_use() & !self.unknown & (self.identity == identity)
+    }
 
-fn has_static(r: Row, address: u8) -> bool
-    ensures { result ≡ has_static address r }
-{
-    (r.address != 0) & (r.from_static == address)
+    fn has_static(self, address: u8) -> bool
+        ensures { result ≡ has_static address self }
+    {
+        self.in_use() & (self.from_static == address)
+    }
 }
 
 // How many rows there are.
-pub fn used_rows(rows: [Row; 32]) -> usize
-    ensures { result ≡ used rows }
+pub fn used_rows(rows: &[Row; 32]) -> usize
+    ensures { result ≡ used rows.now }
 {
-    let mut n: usize = 0;
-    let mut i: usize = 0;
-    while i < 32 {
-        let here = rows[i];
-        if in_use(here) {
-            n += 1;
-        }
-        i += 1;
-    }
-    n
+    rows.iter().filter(|r| r.in_use()).count()
 }
 
 // Whether a row was set from this static address; of 0, whether one was set from none.
-pub fn holds_static(rows: [Row; 32], address: u8) -> bool
-    ensures { result ≡ holds_static address rows }
+pub fn holds_static(rows: &[Row; 32], address: u8) -> bool
+    ensures { result ≡ holds_static address rows.now }
 {
-    let mut i: usize = 0;
-    while i < 32 {
-        let here = rows[i];
-        if has_static(here, address) {
-            return true;
-        }
-        i += 1;
-    }
-    false
-}
-
-// The place of the row with this dynamic address, 32 if none.
-pub fn place_of_address(rows: [Row; 32], address: u8) -> usize
-    ensures { result ≡ place_of_address address rows }
-{
-    let mut i: usize = 0;
-    while i < 32 {
-        let here = rows[i];
-        if has_address(here, address) {
-            return i;
-        }
-        i += 1;
-    }
-    32
+    rows.iter().any(|r| r.has_static(address))
 }
 
 // Whether a row has this dynamic address.
-pub fn holds_address(rows: [Row; 32], address: u8) -> bool
-    ensures { result ≡ holds_address address rows }
+pub fn holds_address(rows: &[Row; 32], address: u8) -> bool
+    ensures { result ≡ holds_address address rows.now }
 {
-    place_of_address(rows, address) < 32
+    rows.iter().any(|r| r.has_address(address))
 }
 
-// The place of the row with this ticket, 32 if none.
-pub fn place_of_ticket(rows: [Row; 32], ticket: u32) -> usize
-    ensures { result ≡ place_of_ticket ticket rows }
+// The place of the row with this dynamic address.
+pub fn place_of_address(rows: &[Row; 32], address: u8) -> Option<usize>
+    ensures { result ≡ position (has_address address) rows.now }
 {
-    let mut i: usize = 0;
-    while i < 32 {
-        let here = rows[i];
-        if has_ticket(here, ticket) {
-            return i;
-        }
-        i += 1;
-    }
-    32
+    rows.iter().position(|r| r.has_address(address))
 }
 
-// The place of the row with this known identity, 32 if none. A row marked unknown has none.
-pub fn place_of_identity(rows: [Row; 32], identity: u64) -> usize
-    ensures { result ≡ place_of_identity identity rows }
+// The place of the row with this ticket.
+pub fn place_of_ticket(rows: &[Row; 32], ticket: u32) -> Option<usize>
+    ensures { result ≡ position (has_ticket ticket) rows.now }
 {
-    let mut i: usize = 0;
-    while i < 32 {
-        let here = rows[i];
-        if has_identity(here, identity) {
-            return i;
-        }
-        i += 1;
-    }
-    32
+    rows.iter().position(|r| r.has_ticket(ticket))
+}
+
+// The place of the row with this known identity. A row marked unknown has none.
+pub fn place_of_identity(rows: &[Row; 32], identity: u64) -> Option<usize>
+    ensures { result ≡ position (has_identity identity) rows.now }
+{
+    rows.iter().position(|r| r.has_identity(identity))
 }
