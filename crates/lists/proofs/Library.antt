@@ -1,13 +1,20 @@
 -- The definitions of `Lists` that the library has under other names, for code that is written with the library's methods.
-use Rattle.std.specs.Prelude.{ℕ, suc, ◌+◌, ◌≡◌, Bool, cond, List, Option, length, position, count_by, ltb, Some, None}
+use Rattle.std.specs.Prelude.{ℕ, suc, ◌+◌, ◌<◌, ◌≡◌, not, Bool, cond, List, true, false, Option, length, position, count_by, nat_lt, Some, None}
+use Rattle.std.specs.Option.{unwrap_or}
 use Rattle.std.specs.List.{position_or_len}
 use Rattle.std.proofs.Common.{refl, ap, sym, ◌∙◌}
+use Rattle.std.proofs.lemmas.Option.{none-some}
+use Rattle.std.proofs.lemmas.Bool.{ltb-false, ltb-true}
+use Rattle.std.proofs.lemmas.List.Sums.{prefix_len-le-length}
 use Rattle.std.proofs.lemmas.List.Recursion.{is_position_or_len, is_count_by}
 use native.Mathlib.Omega.{arith}
 use Rattle.lists.specs.Lists.{count, find}
 
 one_more : (n : ℕ) → suc n ≡ 1 + n
 one_more n = omega arith
+
+some_same : {i k : ℕ} → Some i ≡ Some k → i ≡ k
+some_same {i} {k} h = ap (λ o. unwrap_or o 0) h
 
 module _ {A : Type 0} where
   -- what `filter(p).count()` says
@@ -17,3 +24,34 @@ module _ {A : Type 0} where
   -- what `position(p)` says, as a number, or the length
   pub position_or_len-find : (p : A → Bool) (xs : List A) → position_or_len p xs ≡ find p xs
   position_or_len-find p xs = sym (is_position_or_len (find p) p refl (λ x xs. ap (cond (p x) 0) (one_more (find p xs))) xs)
+
+  module _ (p : A → Bool) (xs : List A) where
+    abbrev k : ℕ
+    k = position_or_len p xs
+
+    -- where it is none of the places
+    past : nat_lt k (length xs) ≡ false → k ≡ length xs
+    past e = omega (arith, ltb-false k (length xs) e, prefix_len-le-length (λ x. not (p x)) xs)
+
+    -- what `position(p).unwrap_or(n)` says of a list of n elements
+    pub position-find : {n : ℕ} {o : Option ℕ} → length xs ≡ n → o ≡ position p xs → unwrap_or o n ≡ find p xs
+    position-find {n} long e = rw (e, ← long) (elim (nat_lt k (length xs)) as (λ b. nat_lt k (length xs) ≡ b → unwrap_or (cond b (Some k) None) (length xs) ≡ find p xs) [
+        | true ↦ λ _. position_or_len-find p xs
+        | false ↦ λ e. sym (past e) ∙ position_or_len-find p xs
+      ] refl)
+
+    -- what a place says that `position(p)` gave
+    pub position_some : {i : ℕ} → Some i ≡ position p xs → (i ≡ find p xs) × (i < length xs)
+    position_some {i} h =
+        elim (nat_lt k (length xs)) as (λ b. nat_lt k (length xs) ≡ b → Some i ≡ cond b (Some k) None → (i ≡ find p xs) × (i < length xs)) [
+          | true ↦ λ e h. (some_same h ∙ position_or_len-find p xs, rw (some_same h) (ltb-true k (length xs) e))
+          | false ↦ λ _ h. absurd (none-some _ (sym h))
+        ] refl h
+
+    -- and that it gave none
+    pub position_none : None ≡ position p xs → find p xs ≡ length xs
+    position_none h =
+        elim (nat_lt k (length xs)) as (λ b. nat_lt k (length xs) ≡ b → None ≡ cond b (Some k) None → find p xs ≡ length xs) [
+          | true ↦ λ _ h. absurd (none-some _ h)
+          | false ↦ λ e _. sym (position_or_len-find p xs) ∙ past e
+        ] refl h

@@ -1,7 +1,7 @@
 -- Laws of the slots: numbers above 7Fh, open addresses, the two bytes that decide whether a legacy set is right, facts that were checked, the slot test's ways.
 use Prim.Native.Nat.{ℕ, ◌+◌, ◌*◌, ◌/◌, ◌%◌, ◌≤◌, ◌<◌}
 use mathlib.Core.Path.{◌≡◌, refl, sym, ap, ◌∙◌}
-use mathlib.Core.Bool.{Bool, true, false, not, ◌&&◌, ◌||◌, or-true, and-false, true≢false}
+use mathlib.Core.Bool.{cond, Bool, true, false, not, ◌&&◌, ◌||◌, or-true, and-false, true≢false}
 use mathlib.Core.List.{List, [], ◌∷◌}
 use native.Mathlib.Omega.{arith}
 use lib.Dec.{eqb, ltb, leb}
@@ -12,9 +12,9 @@ use Rattle.lists.specs.Numbers.{numbers, within}
 use Rattle.lists.proofs.Bools.{both, and, agree}
 use Rattle.lists.proofs.Numbers.{all-numbers, all_numbers_at, within_below, within_above, one_of_above}
 use Rattle.lists.proofs.Bits.{bit_of_zero, bits_none}
-use Rattle.slots.specs.Slots.{class_of, allows, is_legacy, lies_right, legacy_right, facts_of, refused_facts, facts_right, checked, is_open, slot_test}
+use Rattle.slots.specs.Slots.{Checked, class_of, allows, is_legacy, lies_right, legacy_right, facts_of, refused_facts, facts_right, checked, is_open, slot_test}
 use Rattle.slots.specs.declared.Facts.{Facts}
-use Rattle.slots.specs.declared.Checked.{Checked}
+
 
 -- a number above 7Fh is no address
 pub class_above : (a : ℕ) → 128 ≤ a → class_of a ≡ 7
@@ -131,22 +131,22 @@ legacy_length flags legacy last h = rw (ne_eqb (length legacy) 16 h, and-false)
 
 -- ---- the slot test's three ways, over the facts as they were checked
 
-module _ (f : Facts) (a : ℕ) (r : Checked) (e : r ≡ checked f) where
-  right : r.right ≡ facts_right f
+module _ (f : Facts) (a : ℕ) where
+  -- whether they were right
+  was_right : {r : Checked} → r ≡ checked f → r.right ≡ facts_right f
   unfolding checked
-  right = ap (λ (q : Checked). q.right) e
+  was_right e = ap (λ (q : Checked). q.right) e
 
-  pub slot_wrong_facts : not r.right ≡ true → record { refusal = 1; «open» = false } ≡ slot_test f a
+  pub slot_wrong_facts : {n : ℕ} → record { right = false; facts = refused_facts } ≡ checked f → n ≡ cond (facts_right f) 0 1 → record { refusal = n; «open» = false } ≡ slot_test f a
   unfolding slot_test
-  slot_wrong_facts h = rw (← right, h)
+  slot_wrong_facts e k = rw (k, ← was_right e)
 
-  pub slot_too_high : not r.right ≡ false → 127 < a → record { refusal = 2; «open» = false } ≡ slot_test f a
+  pub slot_too_high : {g : Facts} → record { right = true; facts = g } ≡ checked f → 127 < a → record { refusal = 2; «open» = false } ≡ slot_test f a
   unfolding slot_test
-  slot_too_high h b = rw (← right, h, lt-ltb 127 a b)
+  slot_too_high e b = rw (← was_right e, lt-ltb 127 a b)
 
-  pub slot_told : not r.right ≡ false → a ≤ 127 → (o : Bool) → o ≡ is_open r.facts a → record { refusal = 0; «open» = o } ≡ slot_test f a
+  pub slot_told : {g : Facts} → record { right = true; facts = g } ≡ checked f → a ≤ 127 → (o : Bool) → o ≡ is_open g a → record { refusal = 0; «open» = o } ≡ slot_test f a
   unfolding slot_test
-  slot_told h b o k =
-      let yes_right : facts_right f ≡ true = sym right ∙ not-false r.right h in
-      let same : r.facts ≡ f = ap (λ (q : Checked). q.facts) (e ∙ sym (checked_yes f yes_right)) in
-      rw (← right, h, le-ltb 127 a b, k, same)
+  slot_told e b o k =
+      let same = ap (λ (q : Checked). q.facts) (e ∙ sym (checked_yes f (sym (was_right e)))) in
+      rw (← was_right e, le-ltb 127 a b, k, same)

@@ -1,12 +1,12 @@
 -- The address slots: the class of each address, the bus facts, and which addresses are open.
 -- proofs/Numbers has the paper's numbers: the 108 open addresses, those one bit away from 7Eh, and the starred ones.
-use Rattle.std.specs.Prelude.{ℕ, ◌/◌, ◌%◌, Bool, false, cond, not, ◌&&◌, ◌||◌, List, [], ◌∷◌, eqb, ltb, leb, length, get_or, replicate}
+use Rattle.std.specs.Prelude.{ℕ, ◌/◌, ◌%◌, Bool, true, false, Result, Ok, Err, cond, not, ◌&&◌, ◌||◌, List, [], ◌∷◌, eqb, ltb, leb, length, get_or, replicate}
 use Rattle.lists.specs.Lists.{all}
 use Rattle.lists.specs.Numbers.{numbers, within, one_of}
 use Rattle.lists.specs.Bits.{bit}
+use Rattle.refusals.specs.declared.Refusal.{Refusal}
+use Rattle.refusals.specs.Refusals.{number}
 use Rattle.slots.specs.declared.Facts.{Facts}
-use Rattle.slots.specs.declared.Checked.{Checked}
-use Rattle.slots.specs.declared.SlotAnswer.{SlotAnswer}
 
 -- ---- classes
 
@@ -64,9 +64,19 @@ facts_right f = flags_right f.flags && legacy_right f.legacy && last_right f.las
 abbrev pub refused_facts : Facts
 refused_facts = facts_of 0 (replicate 16 0) 4294967295
 
+-- whether facts were right, and which stand from then on
+pub record Checked : Type 0 where
+  pub right : Bool
+  pub facts : Facts
+
 -- facts as they came if they are right, else those of a refused start
 unfoldable pub checked : Facts → Checked
 checked f = record { right = facts_right f; facts = cond (facts_right f) f refused_facts }
+
+-- what a call says that answers with the facts, or a refusal
+abbrev pub checked_of : Result Facts Refusal → Checked
+checked_of (Ok f) = record { right = true; facts = f }
+checked_of (Err r) = record { right = false; facts = refused_facts }
 
 -- ---- open addresses
 
@@ -74,9 +84,19 @@ checked f = record { right = facts_right f; facts = cond (facts_right f) f refus
 unfoldable pub is_open : Facts → ℕ → Bool
 is_open f address = allows f.flags (class_of address) && not (is_legacy f.legacy address)
 
+-- a refusal, 0 for none, and whether the address is open
+pub record SlotAnswer : Type 0 where
+  pub refusal : ℕ
+  pub «open» : Bool
+
 -- the slot test says open or not; refused, first with 1 for the facts, then with 2 for an address over 127, it says not open
 unfoldable pub slot_test : Facts → ℕ → SlotAnswer
 slot_test f address =
     cond (not (facts_right f)) (record { refusal = 1; «open» = false })
     (cond (ltb 127 address) (record { refusal = 2; «open» = false })
     (record { refusal = 0; «open» = is_open f address }))
+
+-- what a call says that answers with open or not, or a refusal
+abbrev pub slot_answer : Result Bool Refusal → SlotAnswer
+slot_answer (Ok o) = record { refusal = 0; «open» = o }
+slot_answer (Err r) = record { refusal = number r; «open» = false }

@@ -1,13 +1,15 @@
 // The 128 address slots, the bus facts, and the slot test.
 #![tactic(auto)]
 
-ghost use Rattle.std.specs.Prelude.{◌≡◌, false, length};
-ghost use Rattle.slots.specs.Slots.{class_of, facts_of, refused_facts, checked, is_legacy, legacy_right, facts_right, is_open, slot_test};
+ghost use Rattle.std.specs.Prelude.{◌≡◌, cond};
+ghost use Rattle.refusals.specs.Refusals.{refusal_of};
+ghost use Rattle.slots.specs.Slots.{class_of, facts_of, refused_facts, checked, checked_of, is_legacy, legacy_right, facts_right, is_open, slot_test, slot_answer};
 ghost use Rattle.slots.specs.Slots.{allows};
 
 mod classes;
 
 use classes::{CLASS, CLOSED_BY_FLAG_1, NO_ADDRESS, OPEN, OPEN_WITH_FLAG_2};
+use refusals::Refusal;
 
 // What is known of a bus: the flag byte (1: an I2C high-speed device is present; 2: 03h may be used), the set of legacy I2C addresses (address a
 // is bit a % 8 of byte a / 8), and the last ticket given.
@@ -16,25 +18,6 @@ pub struct Facts {
     pub flags: u8,
     pub legacy: [u8; 16],
     pub last: u32,
-}
-
-// Facts that keep the rules, or the facts of a refused start.
-#[derive(Clone, Copy)]
-pub struct Checked {
-    pub right: bool,
-    pub facts: Facts,
-}
-
-// Refusals: the bus facts break a rule, or the legacy set is not 16 bytes; the address is over 127.
-pub const FACTS_WRONG: u8 = 1;
-
-pub const OUT_OF_RANGE: u8 = 2;
-
-// What the slot test says: refusal 0, and whether the address is open; or a refusal.
-#[derive(Clone, Copy)]
-pub struct SlotAnswer {
-    pub refusal: u8,
-    pub open: bool,
 }
 
 // The class of an address; a number above 7Fh has a class of its own.
@@ -57,111 +40,79 @@ fn allows(flags: u8, class: u8) -> bool
         | ((class == CLOSED_BY_FLAG_1) & (flags % 2 != 1))
 }
 
-// Whether an address is in the legacy set.
-pub fn is_legacy(legacy: [u8; 16], address: u8) -> bool
-    ensures { result ≡ is_legacy legacy address }
-{
-    if address < 128 {
-        let byte = legacy[(address / 8) as usize];
-        (byte >> (address % 8)) % 2 == 1
-    } else {
-        false
+impl Facts {
+    // Whether an address is in the legacy set.
+    pub fn is_legacy(self, address: u8) -> bool
+        ensures { result ≡ is_legacy self.legacy address }
+    {
+        if address < 128 {
+            let byte = self.legacy[(address / 8) as usize];
+            (byte >> (address % 8)) % 2 == 1
+        } else {
+            false
+        }
+    }
+
+    // Whether the set has legacy addresses from 08h to 77h only: none below, in byte 0, and none above, in byte 15.
+    fn legacy_right(self) -> bool
+        ensures { result ≡ legacy_right self.legacy }
+    {
+        (self.legacy[0] == 0) & (self.legacy[15] == 0)
+    }
+
+    // Whether these facts keep the rules. Every 32-bit number is a right last ticket.
+    pub fn are_right(self) -> bool
+        ensures { result ≡ facts_right self }
+    {
+        (self.flags / 4 == 0) & self.legacy_right()
+    }
+
+    // Whether an address is open: its class allows it with these flags, and no legacy device has it.
+    pub fn is_open(self, address: u8) -> bool
+        ensures { result ≡ is_open self address }
+    {
+        allows(self.flags, class_of(address)) & !self.is_legacy(address)
     }
 }
 
-// Whether a set has legacy addresses from 08h to 77h only: none below, in byte 0, and none above, in byte 15.
-fn legacy_right(legacy: [u8; 16]) -> bool
-    ensures { result ≡ legacy_right legacy }
+// The facts of a refused start: flags 0, no legacy, no ticket left.
+pub fn refused_facts() -> Facts
+    ensures { result ≡ refused_facts }
 {
-    (legacy[0] == 0) & (legacy[15] == 0)
-}
-
-// Whether facts keep the rules. Every 32-bit number is a right last ticket.
-pub fn facts_right(f: Facts) -> bool
-    ensures { result ≡ facts_right f }
-{
-    let legacy = f.legacy;
-    (f.flags / 4 == 0) & legacy_right(legacy)
-}
-
-// Whether an address is open: its class allows it with these flags, and no legacy device has it.
-pub fn is_open(f: Facts, address: u8) -> bool
-    ensures { result ≡ is_open f address }
-{
-    let legacy = f.legacy;
-    allows(f.flags, class_of(address)) & !is_legacy(legacy, address)
-}
-
-// The sixteen bytes of a legacy set.
-fn sixteen(legacy: &[u8]) -> [u8; 16]
-    requires { length legacy.now ≡ 16 }
-    ensures { result ≡ legacy.now }
-{
-    let mut bytes = [0u8; 16];
-    let mut i: usize = 0;
-    while i < 16 {
-        bytes[i] = legacy[i];
-        i += 1;
-    }
-    bytes
-}
-
-// Facts that were not right: in their stead those of a refused start, flags 0, no legacy, no ticket left.
-fn refused() -> Checked
-    ensures { result ≡ record { right = false; facts = refused_facts } }
-{
-    Checked {
-        right: false,
-        facts: Facts {
-            flags: 0,
-            legacy: [0; 16],
-            last: 4294967295,
-        },
+    Facts {
+        flags: 0,
+        legacy: [0; 16],
+        last: u32::MAX,
     }
 }
 
-// Facts from numbers and a legacy set of any length, if they keep the rules.
-pub fn checked_facts(flags: u8, legacy: &[u8], last: u32) -> Checked
-    ensures { result ≡ checked (facts_of flags legacy.now last) }
+// Facts from numbers and a legacy set of any length, if they keep the rules. Where they don't, those of a refused start stand in their stead.
+pub fn checked_facts(flags: u8, legacy: &[u8], last: u32) -> Result<Facts, Refusal>
+    ensures value { checked_of result ≡ checked (facts_of flags legacy.now last) }
+    ensures refusal { refusal_of result ≡ cond (facts_right (facts_of flags legacy.now last)) 0 1 }
 {
-    if legacy.len() != 16 {
-        return refused();
-    }
+    let Ok(legacy) = <[u8; 16]>::try_from(legacy) else {
+        return Err(Refusal::FactsWrong);
+    };
     let given = Facts {
         flags,
-        legacy: sixteen(legacy),
+        legacy,
         last,
     };
-    if facts_right(given) {
-        Checked {
-            right: true,
-            facts: given,
-        }
+    if given.are_right() {
+        Ok(given)
     } else {
-        refused()
+        Err(Refusal::FactsWrong)
     }
 }
 
 // The slot test: whether an address is open, or a refusal, first for the facts, then for the address.
-pub fn slot_test(flags: u8, legacy: &[u8], last: u32, address: u8) -> SlotAnswer
-    ensures { result ≡ slot_test (facts_of flags legacy.now last) address }
+pub fn slot_test(flags: u8, legacy: &[u8], last: u32, address: u8) -> Result<bool, Refusal>
+    ensures { slot_answer result ≡ slot_test (facts_of flags legacy.now last) address }
 {
-    let checked = checked_facts(flags, legacy, last);
-    let facts = checked.facts;
-    if !checked.right {
-        return SlotAnswer {
-            refusal: FACTS_WRONG,
-            open: false,
-        };
-    }
+    let facts = checked_facts(flags, legacy, last)?;
     if 127 < address {
-        return SlotAnswer {
-            refusal: OUT_OF_RANGE,
-            open: false,
-        };
+        return Err(Refusal::OutOfRange);
     }
-    SlotAnswer {
-        refusal: 0,
-        open: is_open(facts, address),
-    }
+    Ok(facts.is_open(address))
 }

@@ -7,5 +7,3 @@ use Rattle.changes.proofs.with_row.Given as goal
 abbrev pub invariant-loop-i : goal.invariant-loop-i
 invariant-loop-i l = Shifting (comes_behind l.initial.held.address) l.initial.held l.rows l.out l.held no_row 32 l.i
 
-abbrev pub decreases-loop-i : goal.decreases-loop-i
-decreases-loop-i l = 32 - l.i

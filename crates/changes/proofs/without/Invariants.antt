@@ -6,5 +6,3 @@ use Rattle.changes.proofs.without.Given as goal
 abbrev pub invariant-loop-i : goal.invariant-loop-i
 invariant-loop-i l = Closing l.place no_row l.rows l.out 32 l.i
 
-abbrev pub decreases-loop-i : goal.decreases-loop-i
-decreases-loop-i l = 31 - l.i

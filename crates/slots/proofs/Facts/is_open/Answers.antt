@@ -1,6 +1,6 @@
--- `slots::is_open` meets its contract.
+-- `slots::Facts::is_open` meets its contract.
 use Rattle.slots.specs.Slots.{is_open}
-use Rattle.slots.proofs.is_open.Goals as goal
+use Rattle.slots.proofs.Facts.is_open.Goals as goal
 
 pub returns : goal.returns
 unfolding is_open
