@@ -1,14 +1,15 @@
 -- The definitions of `Lists` that the library has under other names, for code that is written with the library's methods.
-use Rattle.std.specs.Prelude.{ℕ, suc, ◌+◌, ◌<◌, ◌≡◌, not, Bool, cond, List, true, false, Option, length, position, count_by, nat_lt, Some, None}
+use Rattle.std.specs.Prelude.{ℕ, suc, ◌+◌, ◌<◌, ◌≤◌, ◌≡◌, not, Bool, cond, List, true, false, Option, length, position, count_by, nat_lt, Some, None}
 use Rattle.std.specs.Option.{unwrap_or}
 use Rattle.std.specs.List.{position_or_len}
 use Rattle.std.proofs.Common.{refl, ap, sym, ◌∙◌}
 use Rattle.std.proofs.lemmas.Option.{none-some}
-use Rattle.std.proofs.lemmas.Bool.{ltb-false, ltb-true}
+use Rattle.std.proofs.lemmas.Bool.{ltb-false, ltb-true, lt-ltb, le-ltb}
 use Rattle.std.proofs.lemmas.List.Sums.{prefix_len-le-length}
 use Rattle.std.proofs.lemmas.List.Recursion.{is_position_or_len, is_count_by}
 use native.Mathlib.Omega.{arith}
-use Rattle.lists.specs.Lists.{count, find}
+use Rattle.lists.specs.Lists.{any, count, find}
+use Rattle.lists.proofs.Keeps.{any-find}
 
 one_more : (n : ℕ) → suc n ≡ 1 + n
 one_more n = omega arith
@@ -40,6 +41,10 @@ module _ {A : Type 0} where
         | false ↦ λ e. sym (past e) ∙ position_or_len-find p xs
       ] refl)
 
+    pub position-le : {n : ℕ} {o : Option ℕ} → length xs ≡ n → o ≡ position p xs → unwrap_or o n ≤ n
+    position-le {n} {o} long e =
+        let same = position-find long e ∙ sym (position_or_len-find p xs) in omega (arith, same, prefix_len-le-length (λ x. not (p x)) xs)
+
     -- what a place says that `position(p)` gave
     pub position_some : {i : ℕ} → Some i ≡ position p xs → (i ≡ find p xs) × (i < length xs)
     position_some {i} h =
@@ -55,3 +60,10 @@ module _ {A : Type 0} where
           | true ↦ λ _ h. absurd (none-some _ h)
           | false ↦ λ e _. sym (position_or_len-find p xs) ∙ past e
         ] refl h
+
+    -- so whether some element passes
+    pub position_some_any : {i : ℕ} → Some i ≡ position p xs → any p xs ≡ true
+    position_some_any {i} h = let e = position_some h in rw (any-find p xs, ← e.0) (lt-ltb i (length xs) e.1)
+
+    pub position_none_any : None ≡ position p xs → any p xs ≡ false
+    position_none_any h = rw (any-find p xs, position_none h) (le-ltb (length xs) (length xs) (omega arith))

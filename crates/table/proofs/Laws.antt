@@ -2,6 +2,7 @@
 use Prim.Native.Nat.{ℕ, suc, ◌+◌, ◌-◌, ◌≤◌, ◌<◌}
 use mathlib.Core.Path.{◌≡◌, refl, sym, ◌∙◌}
 use mathlib.Core.Bool.{Bool, true, false, cond, not, ◌&&◌, ◌||◌, or-false}
+use Rattle.std.specs.Prelude.{position, Some, None}
 use mathlib.Core.List.{List, [], ◌∷◌}
 use lib.Dec.{eqb, ltb}
 use native.Mathlib.Omega.{arith}
@@ -11,7 +12,8 @@ use borrow.Author.Tests.{lt-ltb, le-ltb, eq-eqb, ne_eqb, not-true}
 use Rattle.lists.specs.Lists.{all, pairwise, find}
 use Rattle.lists.specs.Numbers.{within}
 use Rattle.lists.proofs.Bools.{both, and}
-use Rattle.lists.proofs.Keeps.{any-find, all_mono, all_drop}
+use Rattle.lists.proofs.Keeps.{all_mono, all_drop}
+use Rattle.lists.proofs.Library.{position_some_any, position_none_any}
 use Rattle.lists.proofs.Loops.{All, Pairs, pairs_turn}
 use Rattle.slots.specs.Slots.{is_open}
 use Rattle.slots.specs.declared.Facts.{Facts}
@@ -27,17 +29,14 @@ module _ (f : Facts) (rows : List Row) where
     unfolding ticket_refusal
     ticket_unknown_lem h = rw h
 
-    module _ (known : ticket_unknown f t ≡ false) (place : ℕ) (e : place ≡ place_of_ticket t rows) (long : length rows ≡ 32) where
-      held : holds_ticket t rows ≡ ltb place 32
-      held = rw (any-find (has_ticket t) rows, long, e)
-
-      pub ticket_held : place < 32 → 0 ≡ ticket_refusal f rows t
+    module _ (known : ticket_unknown f t ≡ false) where
+      pub ticket_held : {place : ℕ} → Some place ≡ position (has_ticket t) rows → 0 ≡ ticket_refusal f rows t
       unfolding ticket_refusal
-      ticket_held h = rw (known, held, lt-ltb place 32 h)
+      ticket_held h = rw (known, position_some_any _ _ h)
 
-      pub ticket_retired_lem : 32 ≤ place → 9 ≡ ticket_refusal f rows t
+      pub ticket_retired_lem : None ≡ position (has_ticket t) rows → 9 ≡ ticket_refusal f rows t
       unfolding ticket_refusal
-      ticket_retired_lem h = rw (known, held, le-ltb place 32 h)
+      ticket_retired_lem h = rw (known, position_none_any _ _ h)
 
 -- ---- a row by itself
 

@@ -1,13 +1,15 @@
 // The table: bus facts and rows together, its tickets, and whether it keeps the rules.
 #![tactic(auto)]
 
-ghost use Rattle.std.specs.Prelude.{◌≤◌, ◌≡◌, not, drop};
-ghost use Rattle.lists.specs.Lists.{all, pairwise, find};
+ghost use Rattle.std.specs.Prelude.{◌≤◌, ◌≡◌, not, drop, position};
+ghost use Rattle.lists.specs.Lists.{all, pairwise};
+ghost use Rattle.refusals.specs.Refusals.{refusal_of};
 ghost use Rattle.rows.specs.Rows.{in_use};
 ghost use Rattle.table.specs.Tickets.{ticket_refusal};
 ghost use Rattle.table.specs.Sound.{static_allowed, used_right, row_right, in_order, sound};
 ghost use Rattle.table.specs.Sound.{distinct};
 
+use refusals::Refusal;
 use rows::Row;
 use slots::Facts;
 
@@ -18,22 +20,32 @@ pub struct Table {
     pub rows: [Row; 32],
 }
 
-// Refusals of a ticket: 0 or above the last; given once, and now of no row.
-pub const TICKET_UNKNOWN: u8 = 8;
-
-pub const TICKET_RETIRED: u8 = 9;
-
-// The refusal of a ticket, 0 for none: unknown, then retired.
-pub fn ticket_refusal(f: Facts, rows: [Row; 32], ticket: u32) -> u8
-    ensures { result ≡ ticket_refusal f rows ticket }
-{
-    if (ticket == 0) | (f.last < ticket) {
-        return TICKET_UNKNOWN;
+impl Table {
+    // The refusals of a ticket: unknown, then retired.
+    pub fn ticket_refusal(&self, ticket: u32) -> Result<(), Refusal>
+        ensures { refusal_of result ≡ ticket_refusal self.now.facts self.now.rows ticket }
+    {
+        if (ticket == 0) | (self.facts.last < ticket) {
+            return Err(Refusal::TicketUnknown);
+        }
+        match rows::place_of_ticket(&self.rows, ticket) {
+            Some(_) => Ok(()),
+            None => Err(Refusal::TicketRetired),
+        }
     }
-    if rows::place_of_ticket(rows, ticket) < 32 {
-        0
-    } else {
-        TICKET_RETIRED
+
+    // Whether every place is right by itself.
+    fn rows_right(&self) -> bool
+        ensures { result ≡ all (row_right self.now.facts) self.now.rows }
+    {
+        self.rows.iter().all(|r| row_right(self.facts, *r))
+    }
+
+    // Whether facts and rows keep all the rules.
+    pub fn is_sound(&self) -> bool
+        ensures { result ≡ sound self.now.facts self.now.rows }
+    {
+        self.facts.are_right() & self.rows_right() & rows_in_order(&self.rows)
     }
 }
 
@@ -41,15 +53,14 @@ pub fn ticket_refusal(f: Facts, rows: [Row; 32], ticket: u32) -> u8
 pub fn static_allowed(f: Facts, address: u8) -> bool
     ensures { result ≡ static_allowed f address }
 {
-    let legacy = f.legacy;
-    (0x08 <= address) & (address <= 0x77) & !slots::is_legacy(legacy, address)
+    (0x08 <= address) & (address <= 0x77) & !f.is_legacy(address)
 }
 
 // Whether a row keeps the rules by itself. It is done with the first rule that is broken.
 fn used_right(f: Facts, r: Row) -> bool
     ensures { result ≡ used_right f r }
 {
-    if !slots::is_open(f, r.address) {
+    if !f.is_open(r.address) {
         return false;
     }
     if !((1 <= r.ticket) & (r.ticket <= f.last)) {
@@ -69,7 +80,7 @@ fn used_right(f: Facts, r: Row) -> bool
 fn row_right(f: Facts, r: Row) -> bool
     ensures { result ≡ row_right f r }
 {
-    if r.address != 0 {
+    if r.in_use() {
         used_right(f, r)
     } else {
         (r.ticket == 0) & !r.unknown & (r.identity == 0) & (r.from_static == 0)
@@ -101,80 +112,35 @@ fn in_order(x: Row, y: Row) -> bool
     distinct(x, y)
 }
 
-// Whether every place is right by itself.
-fn rows_right(f: Facts, rows: [Row; 32]) -> bool
-    ensures { result ≡ all (row_right f) rows }
+// The first unused place.
+fn first_unused(rows: &[Row; 32]) -> Option<usize>
+    ensures { result ≡ position (λ y. not (in_use y)) rows.now }
 {
-    let mut i: usize = 0;
-    while i < 32 {
-        let here = rows[i];
-        if !row_right(f, here) {
-            return false;
-        }
-        i += 1;
-    }
-    true
-}
-
-// The first unused place, 32 if there is none.
-fn first_unused(rows: [Row; 32]) -> usize
-    ensures small { result ≤ 32 }
-    ensures value { result ≡ find (λ y. not (in_use y)) rows }
-{
-    let mut i: usize = 0;
-    while i < 32 {
-        let here = rows[i];
-        if here.address == 0 {
-            return i;
-        }
-        i += 1;
-    }
-    32
+    rows.iter().position(|r| !r.in_use())
 }
 
 // Whether every place from n on is unused.
-fn unused_from(rows: [Row; 32], n: usize) -> bool
+fn unused_from(rows: &[Row; 32], n: usize) -> bool
     requires { n ≤ 32 }
-    ensures { result ≡ all (λ y. not (in_use y)) (drop n rows) }
+    ensures { result ≡ all (λ y. not (in_use y)) (drop n rows.now) }
 {
-    let mut i = n;
-    while i < 32 {
-        let here = rows[i];
-        if here.address != 0 {
-            return false;
-        }
-        i += 1;
-    }
-    true
+    rows.iter().skip(n).all(|r| !r.in_use())
 }
 
 // Whether any two places are in order: behind the first unused place only unused ones, and the rows before it each with each.
-fn rows_in_order(rows: [Row; 32]) -> bool
-    ensures { result ≡ pairwise in_order rows }
+fn rows_in_order(rows: &[Row; 32]) -> bool
+    ensures { result ≡ pairwise in_order rows.now }
 {
-    let n = first_unused(rows);
+    let n = first_unused(rows).unwrap_or(32);
     if !unused_from(rows, n) {
         return false;
     }
-    let mut i: usize = 0;
-    while i < n {
-        let x = rows[i];
-        let mut j = i + 1;
-        while j < n {
-            let y = rows[j];
-            if !in_order(x, y) {
+    for i in 0..n {
+        for j in i + 1..n {
+            if !in_order(rows[i], rows[j]) {
                 return false;
             }
-            j += 1;
         }
-        i += 1;
     }
     true
-}
-
-// Whether facts and rows keep all the rules.
-pub fn is_sound(f: Facts, rows: [Row; 32]) -> bool
-    ensures { result ≡ sound f rows }
-{
-    slots::facts_right(f) & rows_right(f, rows) & rows_in_order(rows)
 }

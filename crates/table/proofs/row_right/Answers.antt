@@ -1,9 +1,9 @@
 -- `table::row_right` meets its contract.
-use borrow.Author.Tests.{eq-eqb, ne_eqb}
+use Rattle.lists.proofs.Bools.{via}
 use Rattle.table.proofs.row_right.Goals as goal
 
-pub returns-then-r-ne0 : goal.returns-then-r-ne0
-returns-then-r-ne0 c = rw (ne_eqb _ _ c.if-r-ne0.true) c.used_right.ensures
+pub returns-then-in_use : goal.returns-then-in_use
+returns-then-in_use c = rw (via c.in_use.ensures c.if-in_use.true) c.used_right.ensures
 
-pub returns-else-r-ne0 : goal.returns-else-r-ne0
-returns-else-r-ne0 c = rw (eq-eqb _ _ c.if-r-ne0.false)
+pub returns-else-in_use : goal.returns-else-in_use
+returns-else-in_use c = rw (via c.in_use.ensures c.if-in_use.false)

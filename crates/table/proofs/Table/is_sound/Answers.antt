@@ -6,8 +6,8 @@ use borrow.Author.Tests.{eq-eqb}
 use Rattle.lists.proofs.Bools.{same}
 use Rattle.table.specs.Sound.{sound}
 use borrow.Author.Rules.{rules}
-use Rattle.table.proofs.is_sound.Goals as goal
+use Rattle.table.proofs.Table.is_sound.Goals as goal
 
 pub returns : goal.returns
 unfolding sound
-returns c = let long : length c.args.rows ≡ 32 = search rules in rw (eq-eqb _ _ long, and-true) (search same)
+returns c = let long : length c.args.self.now.rows ≡ 32 = search rules in rw (eq-eqb _ _ long, and-true) (search same)
