@@ -11,7 +11,7 @@ ticket_refused false true more e h = e
 ticket_refused false false more e h = absurd (h e)
 
 -- with one that is not, more is asked
-pub ticket_right : (unknown retired : Bool) {r x more : ℕ} → r ≡ cond unknown 8 (cond retired 9 0) → r ≡ 0 → x ≡ more → x ≡ cond unknown 8 (cond retired 9 more)
-ticket_right true retired e z p = absurd (omega arith)
-ticket_right false true e z p = absurd (omega arith)
-ticket_right false false e z p = p
+pub ticket_right : (unknown retired : Bool) {x more : ℕ} → ◌≡◌ {A = ℕ} 0 (cond unknown 8 (cond retired 9 0)) → x ≡ more → x ≡ cond unknown 8 (cond retired 9 more)
+ticket_right true retired z p = absurd (omega arith)
+ticket_right false true z p = absurd (omega arith)
+ticket_right false false z p = p

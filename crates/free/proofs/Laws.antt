@@ -3,23 +3,25 @@
 use Prim.Native.Nat.{ℕ, zero, suc, ◌+◌, ◌<◌, ◌≤◌}
 use mathlib.Core.Path.{◌≡◌, refl, sym, ◌∙◌}
 use mathlib.Core.Bool.{Bool, true, false, not, ◌&&◌, ◌||◌, and-true, and-false, or-true}
+use Rattle.std.specs.Prelude.{find, Some, None}
 use mathlib.Core.List.{List, [], ◌∷◌, ◌++◌}
 use native.Mathlib.Omega.{arith}
 use native.Mathlib.Numerals.{add-one}
 use lib.Dec.{eqb, ltb}
 use lib.ListN.{length, take, get_or, set, replicate, get_or-replicate, length-replicate, length-set}
 use lib.Seq.{take-suc, take_all, get_or-set_same, get_or-set_other}
-use borrow.Author.Tests.{lt-ltb, le-ltb, ltb-true, ltb-false, eqb-true, eqb-false, eq-eqb, ne_eqb}
+use borrow.Author.Tests.{ltb-true, ltb-false, eqb-true, eqb-false, ne_eqb}
 use Rattle.lists.specs.Lists.{any}
 use Rattle.lists.specs.Numbers.{first}
+use Rattle.std.proofs.lemmas.Bool.{true≢false}
 use Rattle.lists.proofs.Bools.{both}
-use Rattle.lists.proofs.Keeps.{any-find}
+use Rattle.lists.proofs.Library.{find_some, find_none}
 use Rattle.lists.proofs.Numbers.{first_none}
 use Rattle.slots.specs.Slots.{class_of, allows, is_open}
 use Rattle.slots.specs.declared.Facts.{Facts}
-use Rattle.rows.specs.Rows.{in_use, has_address, holds_address, has_identity, holds_identity, place_of_identity, row_at, no_row}
+use Rattle.rows.specs.Rows.{in_use, has_address, holds_address, has_identity, row_at, no_row}
 use Rattle.rows.specs.declared.Row.{Row}
-use Rattle.free.specs.Free.{is_free, lowest_free, address_for, full, no_free_address, can_assign}
+use Rattle.free.specs.Free.{is_free, lowest_free, address_for, full, no_free_address, no_ticket_left, can_assign}
 
 module _ (f : Facts) (rows : List Row) where
   pub zero_not_free : is_free f rows 0 ≡ false
@@ -30,18 +32,23 @@ module _ (f : Facts) (rows : List Row) where
   unfolding lowest_free no_free_address
   lowest_none = first_none (is_free f rows) zero_not_free 0x00 128
 
-pub held_place : (rows : List Row) (id : ℕ) → length rows ≡ 32 → holds_identity id rows ≡ ltb (place_of_identity id rows) 32
-held_place rows id long = rw (any-find (has_identity id) rows, long)
+-- the lowest free address, where there is one and where there is none
+module _ (f : Facts) (rows : List Row) where
+  pub some_free : (a : ℕ) → a ≡ lowest_free f rows → is_free f rows a ≡ true → false ≡ no_free_address f rows
+  some_free a e h = sym (ne_eqb a 0 (λ z. true≢false (sym (rw z at h) ∙ zero_not_free f rows))) ∙ rw e (lowest_none f rows)
+
+  pub none_free : 0 ≡ lowest_free f rows → true ≡ no_free_address f rows
+  none_free e = rw (← lowest_none f rows, ← e)
 
 -- the ways to an identity's address
-module _ (f : Facts) (rows : List Row) (id place : ℕ) (e : place ≡ place_of_identity id rows) (long : length rows ≡ 32) where
-  pub address_known : place < 32 → (row_at rows place).address ≡ address_for f rows id
+module _ (f : Facts) (rows : List Row) (id : ℕ) where
+  pub address_known : {row : Row} → Some row ≡ find (has_identity id) rows → row.address ≡ address_for f rows id
   unfolding address_for
-  address_known h = rw (held_place rows id long, ← e, lt-ltb place 32 h)
+  address_known h = let e = find_some (has_identity id) no_row rows h in rw (e.0, e.1)
 
-  pub address_new : 32 ≤ place → (a : ℕ) → a ≡ lowest_free f rows → a ≡ address_for f rows id
+  pub address_new : None ≡ find (has_identity id) rows → (a : ℕ) → a ≡ lowest_free f rows → a ≡ address_for f rows id
   unfolding address_for
-  address_new h a g = rw (held_place rows id long, ← e, le-ltb place 32 h) g
+  address_new h a g = rw (find_none (has_identity id) no_row rows h) g
 
 -- ---- marks for the addresses that the rows hold
 
@@ -122,6 +129,12 @@ pub lowest_by_marks : (f : Facts) (rows : List Row) (marks : List Bool) → ((a 
 unfolding lowest_free is_free
 lowest_by_marks f rows marks h = first_same (open_unmarked f marks) (is_free f rows) 0 128 (λ n b. rw (h n b))
 
+-- an address that is open and not marked is free
+pub open_free : (f : Facts) (rows : List Row) (marks : List Bool) → ((a : ℕ) → a < 128 → get_or marks a false ≡ holds_address a rows)
+    → (a : ℕ) → a < 128 → open_unmarked f marks a ≡ true → is_free f rows a ≡ true
+unfolding is_free
+open_free f rows marks h a b e = rw (← h a b) e
+
 -- ---- whether one row more can be given
 
 module _ (f : Facts) (rows : List Row) where
@@ -129,10 +142,10 @@ module _ (f : Facts) (rows : List Row) where
   unfolding can_assign
   no_room e = rw e
 
-  pub no_ticket : f.last ≡ 4294967295 → false ≡ can_assign f rows
+  pub no_ticket : no_ticket_left f ≡ true → false ≡ can_assign f rows
   unfolding can_assign
-  no_ticket e = rw (eq-eqb f.last 4294967295 e, and-false)
+  no_ticket e = rw (e, and-false)
 
-  pub can_by_address : full rows ≡ false → (f.last ≡ 4294967295 → ⊥) → (none : Bool) → none ≡ no_free_address f rows → not none ≡ can_assign f rows
+  pub can_by_address : full rows ≡ false → no_ticket_left f ≡ false → (none : Bool) → none ≡ no_free_address f rows → not none ≡ can_assign f rows
   unfolding can_assign
-  can_by_address e t none g = rw (e, ne_eqb f.last 4294967295 t, ← g, and-true)
+  can_by_address e t none g = rw (e, t, ← g, and-true)

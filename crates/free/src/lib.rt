@@ -2,98 +2,92 @@
 #![tactic(auto)]
 
 ghost use Rattle.std.specs.Prelude.{ℕ, ◌<◌, ◌≡◌, false, get_or};
+ghost use Rattle.std.specs.Option.{unwrap_or, is_none};
 ghost use Rattle.rows.specs.Rows.{holds_address};
-ghost use Rattle.free.specs.Free.{is_free, lowest_free, address_for, no_free_address, can_assign};
+ghost use Rattle.free.specs.Free.{is_free, lowest_free, address_for, no_free_address, no_ticket_left, can_assign};
 ghost use Rattle.free.specs.Free.{full};
 
 use rows::Row;
-use slots::Facts;
-
-// The highest ticket: after it there is none left.
-pub const HIGHEST_TICKET: u32 = 4294967295;
+use table::Table;
 
 // Whether an address is free: open, and no row holds it.
-pub fn is_free(f: Facts, rows: [Row; 32], address: u8) -> bool
-    ensures { result ≡ is_free f rows address }
+pub fn is_free(t: &Table, address: u8) -> bool
+    ensures { result ≡ is_free t.now.facts t.now.rows address }
 {
-    if slots::is_open(f, address) {
-        !rows::holds_address(rows, address)
+    if t.facts.is_open(address) {
+        !rows::holds_address(&t.rows, address)
     } else {
         false
     }
 }
 
 // Which addresses the rows hold: a mark for each.
-fn held(rows: [Row; 32]) -> [bool; 128]
-    ensures { (a : ℕ) → a < 128 → get_or result a false ≡ holds_address a rows }
+fn held(rows: &[Row; 32]) -> [bool; 128]
+    ensures { (a : ℕ) → a < 128 → get_or result a false ≡ holds_address a rows.now }
 {
     let mut marks = [false; 128];
-    let mut i: usize = 0;
-    while i < 32 {
-        let here = rows[i];
-        if (here.address != 0) & (here.address < 128) {
-            let at = here.address as usize;
-            marks[at] = true;
+    for r in rows {
+        if r.in_use() & (r.address < 128) {
+            marks[r.address as usize] = true;
         }
-        i += 1;
     }
     marks
 }
 
-// The lowest free address, 0 if none: the rows are asked once, for all addresses.
-fn lowest_free(f: Facts, rows: [Row; 32]) -> u8
-    ensures { result ≡ lowest_free f rows }
+// The lowest free address: the rows are asked once, for all addresses.
+fn lowest_free(t: &Table) -> Option<u8>
+    ensures value { unwrap_or result 0 ≡ lowest_free t.now.facts t.now.rows }
+    ensures none { is_none result ≡ no_free_address t.now.facts t.now.rows }
 {
-    let marks = held(rows);
-    let mut address: u8 = 0;
-    while address < 128 {
-        if slots::is_open(f, address) {
-            let at = address as usize;
-            if !marks[at] {
-                return address;
-            }
+    let marks = held(&t.rows);
+    for address in 0..128u8 {
+        if t.facts.is_open(address) & !marks[address as usize] {
+            return Some(address);
         }
-        address += 1;
     }
-    0
+    None
 }
 
-// The address that an identity is offered: that of the row which holds it, else the lowest free one.
-pub fn address_for(f: Facts, rows: [Row; 32], identity: u64) -> u8
-    ensures { result ≡ address_for f rows identity }
+// The address that an identity is offered: that of the row which holds it, else the lowest free one, 0 if none is.
+pub fn address_for(t: &Table, identity: u64) -> u8
+    ensures { result ≡ address_for t.now.facts t.now.rows identity }
 {
-    let place = rows::place_of_identity(rows, identity);
-    if place < 32 {
-        rows[place].address
-    } else {
-        lowest_free(f, rows)
+    match rows::row_of_identity(&t.rows, identity) {
+        Some(row) => row.address,
+        None => lowest_free(t).unwrap_or(0),
     }
 }
 
 // Whether there are 32 rows.
-pub fn full(rows: [Row; 32]) -> bool
-    ensures { result ≡ full rows }
+pub fn full(t: &Table) -> bool
+    ensures { result ≡ full t.now.rows }
 {
-    let room = rows::used_rows(rows) < 32;
-    !room
+    !(rows::used_rows(&t.rows) < 32)
 }
 
 // Whether no address is free.
-pub fn no_free_address(f: Facts, rows: [Row; 32]) -> bool
-    ensures { result ≡ no_free_address f rows }
+pub fn no_free_address(t: &Table) -> bool
+    ensures { result ≡ no_free_address t.now.facts t.now.rows }
 {
-    lowest_free(f, rows) == 0
+    lowest_free(t).is_none()
+}
+
+// Whether the highest ticket is given.
+pub fn no_ticket_left(t: &Table) -> bool
+    ensures { result ≡ no_ticket_left t.now.facts }
+{
+    t.facts.last == u32::MAX
 }
 
 // Whether one row more can be given: fewer than 32 rows, a free address, a ticket left.
-pub fn can_assign(f: Facts, rows: [Row; 32]) -> bool
-    ensures { result ≡ can_assign f rows }
+pub fn can_assign(t: &Table) -> bool
+    ensures { result ≡ can_assign t.now.facts t.now.rows }
 {
-    if full(rows) {
+    if full(t) {
         return false;
     }
-    if f.last == HIGHEST_TICKET {
+    if no_ticket_left(t) {
         return false;
     }
-    !no_free_address(f, rows)
+    !no_free_address(t)
 }

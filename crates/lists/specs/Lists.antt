@@ -1,5 +1,5 @@
 -- Definitions over a list, by tests on its elements. (The library's `any` and `all` do not compute outside their own module.)
-use Rattle.std.specs.Prelude.{ℕ, zero, suc, Bool, true, false, cond, ◌&&◌, ◌||◌, List, [], ◌∷◌, ◌++◌}
+use Rattle.std.specs.Prelude.{ℕ, zero, suc, Bool, true, cond, ◌&&◌, List, [], ◌∷◌, ◌++◌}
 use Rattle.std.specs.List.{list_any, list_all}
 
 module _ {A : Type 0} where

@@ -7,25 +7,25 @@ ghost use Rattle.refusals.specs.Refusals.{number};
 // Why a call is refused. The first that applies is given, in the order that stands with each call.
 #[derive(Clone, Copy, Debug, PartialEq, Eq)]
 pub enum Refusal {
-    FactsWrong,      // the bus facts break a rule, or the legacy set is not 16 bytes
-    OutOfRange,      // an address out of range, or an identity that is not eight bytes
-    NotOpen,         // an address is not open, or a static one is legacy
-    Held,            // an address is held by a row
-    Full,            // 32 rows
-    NoFreeAddress,   // no address is free
-    NoTicketLeft,    // the last ticket is given
-    TicketUnknown,   // the ticket is 0 or above the last
-    TicketRetired,   // the ticket was given once, and is now of no row
-    WrongMoment,     // the call is not of this moment
-    TooFewLent,      // fewer cells or bytes are lent than the call must be
-    UnknownChoice,   // a choice that there is not
-    TooLong,         // a record of more than 1,024 cells
-    NoLayout,        // no layout fits
-    NoRoom,          // a buffer shorter than ten bytes an offer
-    TooManyBoards,   // over 32 boards
-    FlipOver8,       // a flip over 8
-    SheetWrong,      // a sheet breaks a rule of kind, count, offset, length or order
-    BrokenMachine,   // a machine that breaks the rules
+    FactsWrong, // the bus facts break a rule, or the legacy set is not 16 bytes
+    OutOfRange, // an address out of range, or an identity that is not eight bytes
+    NotOpen, // an address is not open, or a static one is legacy
+    Held, // an address is held by a row
+    Full, // 32 rows
+    NoFreeAddress, // no address is free
+    NoTicketLeft, // the last ticket is given
+    TicketUnknown, // the ticket is 0 or above the last
+    TicketRetired, // the ticket was given once, and is now of no row
+    WrongMoment, // the call is not of this moment
+    TooFewLent, // fewer cells or bytes are lent than the call must be
+    UnknownChoice, // a choice that there is not
+    TooLong, // a record of more than 1,024 cells
+    NoLayout, // no layout fits
+    NoRoom, // a buffer shorter than ten bytes an offer
+    TooManyBoards, // over 32 boards
+    FlipOver8, // a flip over 8
+    SheetWrong, // a sheet breaks a rule of kind, count, offset, length or order
+    BrokenMachine, // a machine that breaks the rules
 }
 
 impl Refusal {

@@ -3,7 +3,7 @@
 // Nothing here judges the rows: every function takes any 32 of them.
 #![tactic(auto)]
 
-ghost use Rattle.std.specs.Prelude.{◌≡◌, position};
+ghost use Rattle.std.specs.Prelude.{◌≡◌, position, find};
 ghost use Rattle.rows.specs.Rows.{in_use, used, has_address, has_ticket, has_identity, has_static, holds_address, holds_static};
 
 // A board that has an address: its dynamic address, its ticket, its identity or the mark that it is unknown (then the number is 0), and the static
@@ -100,4 +100,18 @@ pub fn place_of_identity(rows: &[Row; 32], identity: u64) -> Option<usize>
     ensures { result ≡ position (has_identity identity) rows.now }
 {
     rows.iter().position(|r| r.has_identity(identity))
+}
+
+// The row with this ticket.
+pub fn row_of_ticket(rows: &[Row; 32], ticket: u32) -> Option<Row>
+    ensures { result ≡ find (has_ticket ticket) rows.now }
+{
+    rows.iter().copied().find(|r| r.has_ticket(ticket))
+}
+
+// The row with this known identity.
+pub fn row_of_identity(rows: &[Row; 32], identity: u64) -> Option<Row>
+    ensures { result ≡ find (has_identity identity) rows.now }
+{
+    rows.iter().copied().find(|r| r.has_identity(identity))
 }

@@ -6,7 +6,7 @@ use mathlib.Core.List.{List, [], ◌∷◌}
 use native.Mathlib.Omega.{arith}
 use lib.Dec.{eqb, ltb, leb}
 use lib.ListN.{length, get_or, get_or-eq_default}
-use borrow.Author.Tests.{eq-eqb, ne_eqb, eqb-true, ltb-true, ltb-false, leb-false, le-leb, lt-ltb, le-ltb, not-false}
+use borrow.Author.Tests.{eq-eqb, ne_eqb, eqb-true, ltb-true, ltb-false, leb-false, le-leb, lt-ltb, le-ltb}
 use Rattle.lists.specs.Lists.{all}
 use Rattle.lists.specs.Numbers.{numbers, within}
 use Rattle.lists.proofs.Bools.{both, and, agree}
@@ -14,7 +14,6 @@ use Rattle.lists.proofs.Numbers.{all-numbers, all_numbers_at, within_below, with
 use Rattle.lists.proofs.Bits.{bit_of_zero, bits_none}
 use Rattle.slots.specs.Slots.{Checked, class_of, allows, is_legacy, lies_right, legacy_right, facts_of, refused_facts, facts_right, checked, is_open, slot_test}
 use Rattle.slots.specs.declared.Facts.{Facts}
-
 
 -- a number above 7Fh is no address
 pub class_above : (a : ℕ) → 128 ≤ a → class_of a ≡ 7

@@ -4,9 +4,9 @@ use mathlib.Core.Path.{◌≡◌, refl, sym, ◌∙◌}
 use mathlib.Core.Bool.{Bool, true, false, cond, not, ◌&&◌, ◌||◌, or-false}
 use Rattle.std.specs.Prelude.{position, Some, None}
 use mathlib.Core.List.{List, [], ◌∷◌}
-use lib.Dec.{eqb, ltb}
+use lib.Dec.{eqb}
 use native.Mathlib.Omega.{arith}
-use lib.ListN.{length, get_or, drop}
+use lib.ListN.{get_or, drop}
 use lib.Seq.{drop-drop}
 use borrow.Author.Tests.{lt-ltb, le-ltb, eq-eqb, ne_eqb, not-true}
 use Rattle.lists.specs.Lists.{all, pairwise, find}
@@ -17,7 +17,7 @@ use Rattle.lists.proofs.Library.{position_some_any, position_none_any}
 use Rattle.lists.proofs.Loops.{All, Pairs, pairs_turn}
 use Rattle.slots.specs.Slots.{is_open}
 use Rattle.slots.specs.declared.Facts.{Facts}
-use Rattle.rows.specs.Rows.{in_use, has_ticket, holds_ticket, place_of_ticket}
+use Rattle.rows.specs.Rows.{in_use, has_ticket}
 use Rattle.rows.specs.declared.Row.{Row}
 use Rattle.table.specs.Sound.{static_allowed, used_right, distinct, in_order}
 use Rattle.table.specs.Tickets.{ticket_unknown, ticket_refusal}

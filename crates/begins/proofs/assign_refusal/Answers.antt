@@ -11,9 +11,9 @@ pub returns-then-no_free_address : goal.returns-then-no_free_address
 unfolding assign_refusal
 returns-then-no_free_address c = search chain
 
-pub returns-then-f-eq-HIGHEST_TICKET : goal.returns-then-f-eq-HIGHEST_TICKET
+pub returns-then-no_ticket_left : goal.returns-then-no_ticket_left
 unfolding assign_refusal
-returns-then-f-eq-HIGHEST_TICKET c = search chain
+returns-then-no_ticket_left c = search chain
 
 pub returns : goal.returns
 unfolding assign_refusal

@@ -3,9 +3,9 @@ use Rattle.lists.proofs.Bools.{chain}
 use Rattle.begins.specs.Begins.{choice_refusal}
 use Rattle.begins.proofs.choice_refusal.Goals as goal
 
-pub returns-then-choice-gt5 : goal.returns-then-choice-gt5
+pub returns-then-choice-gt-ALLOW : goal.returns-then-choice-gt-ALLOW
 unfolding choice_refusal
-returns-then-choice-gt5 c = search chain
+returns-then-choice-gt-ALLOW c = search chain
 
 pub returns-in-0 : goal.returns-in-0
 unfolding choice_refusal

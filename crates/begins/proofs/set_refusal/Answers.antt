@@ -19,9 +19,9 @@ pub returns-then-full : goal.returns-then-full
 unfolding set_refusal
 returns-then-full c = search chain
 
-pub returns-then-f-eq-HIGHEST_TICKET : goal.returns-then-f-eq-HIGHEST_TICKET
+pub returns-then-no_ticket_left : goal.returns-then-no_ticket_left
 unfolding set_refusal
-returns-then-f-eq-HIGHEST_TICKET c = search chain
+returns-then-no_ticket_left c = search chain depth 6
 
 pub returns : goal.returns
 unfolding set_refusal

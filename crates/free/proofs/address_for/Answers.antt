@@ -1,10 +1,9 @@
 -- `free::address_for` meets its contract.
 use Rattle.free.proofs.Laws.{address_known, address_new}
-use borrow.Author.Rules.{rules}
 use Rattle.free.proofs.address_for.Goals as goal
 
-pub returns-then-place-lt32 : goal.returns-then-place-lt32
-returns-then-place-lt32 c = search (address_known, rules)
+pub returns-in-Some : goal.returns-in-Some
+returns-in-Some c = address_known _ _ _ c.in-Some.ensures
 
-pub returns-else-place-lt32 : goal.returns-else-place-lt32
-returns-else-place-lt32 c = search (address_new, rules)
+pub returns-in-None : goal.returns-in-None
+returns-in-None c = address_new _ _ _ c.in-None.ensures _ (rw c.unwrap_or.ensures c.lowest_free.ensures.value)

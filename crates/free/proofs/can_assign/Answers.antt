@@ -6,8 +6,8 @@ use Rattle.free.proofs.can_assign.Goals as goal
 pub returns-then-full : goal.returns-then-full
 returns-then-full c = search (no_room, via)
 
-pub returns-then-f-eq-HIGHEST_TICKET : goal.returns-then-f-eq-HIGHEST_TICKET
-returns-then-f-eq-HIGHEST_TICKET c = search no_ticket
+pub returns-then-no_ticket_left : goal.returns-then-no_ticket_left
+returns-then-no_ticket_left c = search (no_ticket, via)
 
 pub returns : goal.returns
 returns c = search (can_by_address, via)

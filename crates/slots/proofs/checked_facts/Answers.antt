@@ -1,5 +1,5 @@
 -- `slots::checked_facts` meets its contract: a set of another length is not right, and one of 16 bytes is judged as it came.
-use Rattle.std.proofs.Common.{◌≡◌, rules, sym, ◌∙◌}
+use Rattle.std.proofs.Common.{◌≡◌, sym, ◌∙◌}
 use Rattle.slots.proofs.Laws.{checked_yes, checked_no, legacy_length}
 use Rattle.slots.proofs.checked_facts.Goals as goal
 

@@ -1,5 +1,4 @@
 -- `slots::slot_test` meets its contract: one law for each of its three ways.
-use Rattle.std.proofs.Common.{rules}
 use Rattle.std.proofs.lemmas.Result.{err_from_is_err_and}
 use Rattle.slots.proofs.Laws.{slot_wrong_facts, slot_too_high, slot_told}
 use Rattle.slots.proofs.slot_test.Goals as goal

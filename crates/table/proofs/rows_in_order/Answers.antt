@@ -1,7 +1,6 @@
 -- `table::rows_in_order` meets its contract: a search loop in a search loop, up to the first unused place.
-use mathlib.Core.Path.{◌≡◌, ◌∙◌, sym}
+use mathlib.Core.Path.{◌∙◌, sym}
 use Rattle.std.specs.Prelude.{◌≤◌}
-use Rattle.lists.specs.Lists.{find}
 use Rattle.lists.proofs.Bools.{via}
 use borrow.Author.Tests.{not-true, not-false}
 use Rattle.lists.proofs.Library.{position-find, position-le}

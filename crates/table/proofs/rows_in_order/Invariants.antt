@@ -9,7 +9,5 @@ use Rattle.table.proofs.rows_in_order.Given as goal
 abbrev pub invariant-loop-j : goal.invariant-loop-j
 invariant-loop-j l = All (in_order (get_or l.rows l.i no_row)) l.rows no_row (all (in_order (get_or l.rows l.i no_row)) (drop (l.i + 1) l.rows)) 32 l.j
 
-
 abbrev pub invariant-loop-i : goal.invariant-loop-i
 invariant-loop-i l = Pairs in_order l.rows no_row 32 l.i
-
