@@ -1,4 +1,4 @@
--- Every call's cells fit the eight places and the lent buffer, and writing them is what its promise says.
+-- Every call's cells are at most eight, and fit the lent buffer.
 use Prim.Native.Nat.{ℕ, ◌≤◌}
 use mathlib.Core.Path.{◌≡◌, refl, ◌∙◌}
 use mathlib.Core.Bool.{Bool, true, false, cond, not}
@@ -12,14 +12,12 @@ use Rattle.lists.proofs.Bools.{cond_by}
 use Rattle.machine.proofs.Laws.{eight_bytes}
 use Rattle.parity.specs.Cells.{identity_cell}
 use Rattle.machine.specs.declared.Machine.{Machine}
-use Rattle.machine.specs.declared.did.Did.{Did}
-use Rattle.machine.specs.declared.Stepped.{Stepped}
 use Rattle.machine.specs.declared.Moment.{Moment}
 use Rattle.machine.specs.declared.Moment.TheVariants.{Idle, Opened, Round, Listening, Offered, Direct}
 use Rattle.machine.specs.Moments.{machine_right}
 use Rattle.machine.specs.Refusals.{step_refusal, begin_refusal, join_refusal, identity_refusal, give_up_refusal}
 use Rattle.machine.specs.Steps.{Step, refuse, beginning, joining, round_rule, commanded, opened_answer, round_answer, listened, accepted, declined, direct_answer, answer_at}
-use Rattle.machine.specs.Calls.{unless, begun, answered, identified, given_up, joined, stepped, written, laid}
+use Rattle.machine.specs.Calls.{unless, begun, answered, identified, given_up, joined}
 
 -- ---- room
 
@@ -95,17 +93,3 @@ module _ (m : Machine) (room : ℕ) where
   pub joined_fits : (choice : ℕ) → Fits room (joined m choice room)
   unfolding joined join_refusal
   joined_fits choice = fits room m _ _ (λ _. joining_short m choice)
-
--- ---- writing them
-
--- the first places of the eight are the step's cells
-pub laid_cells : (s : Step) (room : ℕ) → Fits room s → take (laid s).count (laid s).out ≡ s.cells
-laid_cells s room h = take-take (length s.cells) 8 (s.cells ++ replicate 8 0) h.0 ∙ take-append_seam s.cells (replicate 8 0)
-
--- what a call hands out, and what it leaves in the buffer
-module _ (s : Step) {d : Did} (e : d ≡ laid s) where
-  pub handed : {r : Stepped} → r ≡ record { machine = d.machine; count = d.count; refusal = d.refusal } → r ≡ stepped s
-  handed g = g ∙ rw e
-
-  pub left_behind : (entry exit : List ℕ) → Fits (length entry) s → exit ≡ take d.count d.out ++ drop d.count entry → exit ≡ written s entry
-  left_behind entry exit h g = g ∙ rw (e, laid_cells s (length entry) h)

@@ -7,28 +7,32 @@ use native.Mathlib.Omega.{arith}
 use lib.Dec.{eqb, ltb}
 use lib.ListN.{length, replicate, length-map, get_or-eq_default}
 use lib.Seq.{take_at}
-use borrow.Author.Tests.{le-ltb, lt-ltb, leb-true, eqb-true, eqb-false, ne_eqb, not-true, not-false}
+use borrow.Author.Tests.{ltb-false, leb-true, eqb-true, eqb-false, ne_eqb, not-true, not-false}
 use Rattle.lists.proofs.Bools.{not-refused}
 use Rattle.parity.specs.Cells.{identity_cell}
-use Rattle.slots.specs.Slots.{facts_right, checked}
-use Rattle.slots.specs.declared.Checked.{Checked}
+use Rattle.slots.specs.Slots.{facts_right, Checked, checked}
 use Rattle.slots.specs.declared.Facts.{Facts}
-use Rattle.rows.specs.Rows.{no_row, place_of_ticket, place_of_identity, row_at}
+use Rattle.rows.specs.Rows.{no_row, has_ticket, has_identity, place_of_ticket}
 use Rattle.rows.specs.declared.Row.{Row}
 use Rattle.changes.specs.Changes.{with_row, renewed}
 use Rattle.free.specs.Free.{address_for, no_ticket_left, can_assign}
-use Rattle.free.proofs.Laws.{held_place}
+use Rattle.lists.proofs.Keeps.{any-find}
+use Rattle.lists.proofs.Library.{position_some, position_some_any, position_none_any, find_some, find_none}
+use Rattle.std.specs.Prelude.{Some, None, position}
+use Rattle.std.specs.List.{find as list_find}
 use Rattle.table.specs.Sound.{sound}
 use Rattle.begins.specs.Begins.{asked_right, can_set}
 use Rattle.machine.specs.declared.Machine.{Machine}
-use Rattle.machine.specs.declared.did.Did.{Did}
+use Rattle.refusals.specs.Refusals.{number}
+use Rattle.refusals.specs.declared.Refusal.{Refusal}
+use Rattle.refusals.proofs.Laws.{number_not_zero}
 use Rattle.machine.specs.declared.Stepped.{Stepped}
 use Rattle.machine.specs.declared.Moment.{Moment}
 use Rattle.machine.specs.declared.Moment.TheVariants.{Offered, Direct}
 use Rattle.machine.specs.Moments.{idle, offering, right_at, moment_right, machine_right, is_idle, is_listening}
 use Rattle.machine.specs.Refusals.{step_refusal, rest_refusal, identity_refusal, ask_refusal}
 use Rattle.machine.specs.Steps.{Step, refuse, address_of, identity_of, listened, assigned_row, accepted_rows, answer_at}
-use Rattle.machine.specs.Calls.{unless, started, asked, stepped, laid}
+use Rattle.machine.specs.Calls.{unless, started, asked, stepped, written}
 
 -- ---- the rules
 
@@ -38,13 +42,14 @@ unfolding moment_right
 moment_at m w b at e = e ∙ ap (λ (v : Moment). right_at v m) (sym at)
 
 -- a sound table: the moment's rule decides; else none
-pub right_sound : (m : Machine) {b : Bool} → sound m.table.facts m.table.rows ≡ true → b ≡ moment_right m → b ≡ machine_right m
-unfolding machine_right
-right_sound m s e = rw s e
+module _ (m : Machine) {b : Bool} (e : b ≡ sound m.table.facts m.table.rows) where
+  pub right_sound : b ≡ true → {c : Bool} → c ≡ moment_right m → c ≡ machine_right m
+  unfolding machine_right
+  right_sound s h = rw (← e, s) h
 
-pub right_unsound : (m : Machine) → sound m.table.facts m.table.rows ≡ false → false ≡ machine_right m
-unfolding machine_right
-right_unsound m s = rw s
+  pub right_unsound : b ≡ false → b ≡ machine_right m
+  unfolding machine_right
+  right_unsound s = rw (← e, s)
 
 -- ---- refusals
 
@@ -103,32 +108,40 @@ rest_passed m {r} {x} {more} e z p = go (machine_right m) (is_idle m.moment) e
     go true true e = p
 
 -- a call that is refused, and one that is not
-pub call_refused : (m : Machine) (s : Step) {k r : ℕ} {d : Did} → r ≡ k → (r ≡ 0 → ⊥) → d ≡ laid (refuse m r) → d ≡ laid (unless k m s)
-call_refused m s {k} {r} e n p = rw (← e, ne_eqb r 0 n) p
+pub call_refused : (m : Machine) (s : Step) (r : Refusal) {k : ℕ} {d : Stepped} → number r ≡ k → d ≡ stepped (refuse m (number r)) → d ≡ stepped (unless k m s)
+call_refused m s r e p = rw (← e, ne_eqb (number r) 0 (number_not_zero r)) p
 
-pub call_passed : (m : Machine) (s : Step) {k r : ℕ} {d : Did} → r ≡ k → r ≡ 0 → d ≡ laid s → d ≡ laid (unless k m s)
-call_passed m s {k} {r} e z p = rw (← e, z) p
+pub nothing_written : (m : Machine) (s : Step) (r : Refusal) {k : ℕ} {cells : List ℕ} → number r ≡ k → cells ≡ written (unless k m s) cells
+nothing_written m s r e = rw (← e, ne_eqb (number r) 0 (number_not_zero r))
 
--- the same of a call that writes nothing
-pub retire_refused : (m : Machine) (s : Step) {k r : ℕ} → r ≡ k → (r ≡ 0 → ⊥) → record { machine = m; count = 0; refusal = r } ≡ stepped (unless k m s)
-retire_refused m s {k} {r} e n = rw (← e, ne_eqb r 0 n)
+pub call_passed : (m : Machine) (s : Step) {k : ℕ} {d : Stepped} → 0 ≡ k → d ≡ stepped s → d ≡ stepped (unless k m s)
+call_passed m s e p = rw (← e) p
 
-pub retire_passed : (m : Machine) (s : Step) {k r : ℕ} {x : Stepped} → r ≡ k → r ≡ 0 → x ≡ stepped s → x ≡ stepped (unless k m s)
-retire_passed m s e z p = rw (← e, z) p
+pub call_written : (m : Machine) (s : Step) (entry : List ℕ) {k : ℕ} {exit : List ℕ} → 0 ≡ k → exit ≡ written s entry → exit ≡ written (unless k m s) entry
+call_written m s entry e p = rw (← e) p
 
-pub ask_refused : (m : Machine) (ticket : ℕ) {r : ℕ} → r ≡ ask_refusal m ticket → (r ≡ 0 → ⊥) → record { address = 0; refusal = r } ≡ asked m ticket
+pub ask_refused : (m : Machine) (ticket : ℕ) (r : Refusal) → number r ≡ ask_refusal m ticket → record { address = 0; refusal = number r } ≡ asked m ticket
 unfolding asked
-ask_refused m ticket {r} e n = rw (← e, ne_eqb r 0 n)
+ask_refused m ticket r e = rw (← e, ne_eqb (number r) 0 (number_not_zero r))
 
-pub ask_told : (m : Machine) (ticket : ℕ) {r a : ℕ} → r ≡ ask_refusal m ticket → r ≡ 0 → a ≡ address_of m.table.rows ticket → record { address = a; refusal = 0 } ≡ asked m ticket
+pub ask_told : (m : Machine) (ticket : ℕ) {a : ℕ} → 0 ≡ ask_refusal m ticket → a ≡ address_of m.table.rows ticket → record { address = a; refusal = 0 } ≡ asked m ticket
 unfolding asked
-ask_told m ticket e z p = rw (← e, z, p)
+ask_told m ticket e p = rw (← e, p)
 
 -- a start on facts that were checked
-pub start_told : (f : Facts) {k : Checked} {rows : List Row} {machine : Machine} {r : ℕ} → k ≡ checked f → rows ≡ replicate 32 no_row
-    → machine ≡ idle k.facts rows → r ≡ cond k.right 0 1 → record { machine = machine; count = 0; refusal = r } ≡ stepped (started f)
-unfolding started checked
-start_told f e p q g = rw (g, q, p, e)
+pub start_told : (f : Facts) {k : Checked} {machine : Machine} {r : ℕ} → k ≡ checked f → machine ≡ idle k.facts (replicate 32 no_row)
+    → r ≡ cond (facts_right f) 0 1 → record { machine = machine; count = 0; refusal = r } ≡ stepped (started f)
+unfolding started
+start_told f e p q = rw (p, q, e)
+
+-- a stepping call that is not refused has room for eight cells
+pub room_enough : (room : ℕ) (m : Machine) (more : ℕ) → 0 ≡ step_refusal room m more → 8 ≤ room
+unfolding step_refusal
+room_enough room m more e = go (ltb room 8) refl e
+  where
+    go : (short : Bool) → ltb room 8 ≡ short → 0 ≡ cond short 11 (cond (not (machine_right m)) 28 more) → 8 ≤ room
+    go true s e = absurd (omega arith)
+    go false s e = ltb-false room 8 s
 
 -- a stepping call has its room, and a machine that keeps the rules
 pub step_right : (room : ℕ) (m : Machine) {r : ℕ} → r ≡ step_refusal room m 0 → r ≡ 0 → machine_right m ≡ true
@@ -142,23 +155,28 @@ step_right room m {r} e z = go (ltb room 8) (machine_right m) e
 
 -- ---- an address that a ticket has
 
-module _ (rows : List Row) (ticket place : ℕ) (e : place ≡ place_of_ticket ticket rows) where
-  pub address_there : (row_at rows place).address ≡ address_of rows ticket
-  address_there = rw e
+module _ (rows : List Row) (ticket : ℕ) where
+  pub address_there : {r : Row} → Some r ≡ list_find (has_ticket ticket) rows → r.address ≡ address_of rows ticket
+  address_there h = ap (λ (r : Row). r.address) (find_some (has_ticket ticket) no_row rows h).1
 
-  pub address_none : 32 ≤ place → length rows ≡ 32 → 0 ≡ address_of rows ticket
-  address_none h long = sym (ap (λ (r : Row). r.address) (get_or-eq_default rows no_row {n = place} (omega arith))) ∙ address_there
+  pub address_none : None ≡ list_find (has_ticket ticket) rows → 0 ≡ address_of rows ticket
+  address_none h =
+      let none = sym (any-find (has_ticket ticket) rows) ∙ find_none (has_ticket ticket) no_row rows h in
+      let past : length rows ≤ place_of_ticket ticket rows = ltb-false (place_of_ticket ticket rows) (length rows) none in
+      sym (ap (λ (r : Row). r.address) (get_or-eq_default rows no_row past))
 
 -- ---- rows after an accepted offer
 
-module _ (rows : List Row) (identity address ticket place : ℕ) (e : place ≡ place_of_identity identity rows) (long : length rows ≡ 32) {out : List Row} where
-  pub accepted_known : place < 32 → out ≡ renewed place ticket rows → out ≡ accepted_rows rows identity address ticket
+module _ (rows : List Row) (identity address ticket : ℕ) where
+  pub accepted_known : {place : ℕ} → Some place ≡ position (has_identity identity) rows → {out : List Row} → out ≡ renewed place ticket rows
+      → out ≡ accepted_rows rows identity address ticket
   unfolding accepted_rows
-  accepted_known h g = rw (held_place rows identity long, ← e, lt-ltb place 32 h) g
+  accepted_known h g = rw (position_some_any _ _ h, ← (position_some _ _ h).0) g
 
-  pub accepted_new : 32 ≤ place → out ≡ with_row (assigned_row address ticket identity) rows → out ≡ accepted_rows rows identity address ticket
+  pub accepted_new : None ≡ position (has_identity identity) rows → {out : List Row} → out ≡ with_row (assigned_row address ticket identity) rows
+      → out ≡ accepted_rows rows identity address ticket
   unfolding accepted_rows
-  accepted_new h g = rw (held_place rows identity long, ← e, le-ltb place 32 h) g
+  accepted_new h g = rw (position_none_any _ _ h) g
 
 -- ---- an identity
 
@@ -166,32 +184,18 @@ module _ (rows : List Row) (identity address ticket place : ℕ) (e : place ≡ 
 pub eight_bytes : (m : Machine) (bytes : ℕ) → ◌≡◌ {A = ℕ} (cond (not (is_listening m.moment)) 10 (cond (not (eqb bytes 8)) 2 0)) 0 → bytes ≡ 8
 eight_bytes m bytes h = let t = simp not-refused at h in eqb-true bytes 8 (not-false (eqb bytes 8) t.1.0)
 
-pub eight_heard : (m : Machine) (bytes room : ℕ) {r : ℕ} → r ≡ identity_refusal m bytes room → r ≡ 0 → bytes ≡ 8
+pub eight_heard : (m : Machine) (bytes room : ℕ) → 0 ≡ identity_refusal m bytes room → bytes ≡ 8
 unfolding identity_refusal step_refusal
-eight_heard m bytes room e z = let t = simp not-refused at (sym e ∙ z) in eqb-true bytes 8 (not-false (eqb bytes 8) t.1.1.1.0)
+eight_heard m bytes room e = let t = simp not-refused at (sym e) in eqb-true bytes 8 (not-false (eqb bytes 8) t.1.1.1.0)
 
--- eight bytes that were listened to
-pub listened-laid : (m : Machine) (bytes : List ℕ) {identity address : ℕ} {machine : Machine} {out : List ℕ} → length bytes ≡ 8
-    → identity ≡ identity_of bytes → address ≡ address_for m.table.facts m.table.rows identity
-    → machine ≡ offering m.table.facts m.table.rows identity address m.refusals → out ≡ map identity_cell bytes
-    → record { machine = machine; out = out; count = 8; refusal = 0 } ≡ laid (listened m bytes)
-unfolding listened
-listened-laid m bytes long i a e o =
-    let n : length (map identity_cell bytes) ≡ 8 = length-map bytes identity_cell ∙ long in
-    rw (e, a, i, o, n, take_at (map identity_cell bytes) (replicate 8 0) 8 n)
+-- ---- an answer, or none, at this moment
 
--- ---- an answer, or none
+module _ (m : Machine) (h : Bool) (w : Moment) (at : m.moment ≡ w) where
+  pub answer_stepped : {d : Stepped} → d ≡ stepped (answer_at w m h) → d ≡ stepped (answer_at m.moment m h)
+  answer_stepped e = e ∙ ap (λ (v : Moment). stepped (answer_at v m h)) (sym at)
 
--- what a step says by whether it was heard
-pub heard_yes : {h : Bool} (x y : Step) {d : Did} → h ≡ true → d ≡ laid x → d ≡ laid (cond h x y)
-heard_yes x y p q = rw p q
-
-pub heard_no : {h : Bool} (x y : Step) {d : Did} → h ≡ false → d ≡ laid y → d ≡ laid (cond h x y)
-heard_no x y p q = rw p q
-
--- at this moment
-pub answer_at_lem : (m : Machine) (h : Bool) (w : Moment) {d : Did} → m.moment ≡ w → d ≡ laid (answer_at w m h) → d ≡ laid (answer_at m.moment m h)
-answer_at_lem m h w at e = e ∙ ap (λ (v : Moment). laid (answer_at v m h)) (sym at)
+  pub answer_written : (entry : List ℕ) {exit : List ℕ} → exit ≡ written (answer_at w m h) entry → exit ≡ written (answer_at m.moment m h) entry
+  answer_written entry e = e ∙ ap (λ (v : Moment). written (answer_at v m h) entry) (sym at)
 
 -- ---- a ticket left
 

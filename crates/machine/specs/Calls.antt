@@ -1,15 +1,15 @@
 -- The calls: refused with the first number that applies, else the step.
-use Rattle.std.specs.Prelude.{ℕ, Bool, cond, List, [], ◌∷◌, ◌++◌, eqb, length, take, replicate}
+use Rattle.std.specs.Prelude.{ℕ, ◌≡◌, Bool, cond, List, [], ◌∷◌, eqb, length, replicate, Result, Ok, Err}
 use Rattle.lists.specs.Buffers.{lay}
+use Rattle.refusals.specs.Refusals.{number}
+use Rattle.refusals.specs.declared.Refusal.{Refusal}
 use Rattle.parity.specs.Cells.{stop_cell}
 use Rattle.slots.specs.Slots.{facts_right, checked}
 use Rattle.slots.specs.declared.Facts.{Facts}
 use Rattle.rows.specs.Rows.{no_row, place_of_ticket}
 use Rattle.changes.specs.Changes.{without}
 use Rattle.machine.specs.declared.Machine.{Machine}
-use Rattle.machine.specs.declared.did.Did.{Did}
 use Rattle.machine.specs.declared.Stepped.{Stepped}
-use Rattle.machine.specs.declared.TicketAnswer.{TicketAnswer}
 use Rattle.machine.specs.Moments.{idle}
 use Rattle.machine.specs.Refusals.{step_refusal, begin_refusal, join_refusal, identity_refusal, give_up_refusal, retire_refusal, ask_refusal}
 use Rattle.machine.specs.Steps.{Step, did, refuse, address_of, beginning, joining, listened, answer_at}
@@ -46,6 +46,11 @@ started f = record { machine = idle (checked f).facts (replicate 32 no_row); cel
 unfoldable pub retired : Machine → ℕ → Step
 retired m ticket = unless (retire_refusal m ticket) m (did (idle m.table.facts (without (place_of_ticket ticket m.table.rows) m.table.rows)) [])
 
+-- what is said of a ticket: its present address, or 0 and a refusal
+pub record TicketAnswer : Type 0 where
+  pub address : ℕ
+  pub refusal : ℕ
+
 -- asking for a ticket gives its present address, or 0 with the refusal
 unfoldable pub asked : Machine → ℕ → TicketAnswer
 asked m ticket = record { address = cond (eqb (ask_refusal m ticket) 0) (address_of m.table.rows ticket) 0; refusal = ask_refusal m ticket }
@@ -59,6 +64,11 @@ stepped s = record { machine = s.machine; count = length s.cells; refusal = s.re
 abbrev pub written : Step → List ℕ → List ℕ
 written s buffer = lay s.cells buffer
 
--- a step inside the machine, before it is written: its cells in the first of eight places, 0 behind them
-abbrev pub laid : Step → Did
-laid s = record { machine = s.machine; out = take 8 (s.cells ++ replicate 8 0); count = length s.cells; refusal = s.refusal }
+-- both, for a step inside the machine: its lent cells on entry, what it hands back, and the cells at exit
+abbrev pub ComesTo : Step → List ℕ → Stepped → List ℕ → Type 0
+ComesTo s entry came exit = (came ≡ stepped s) × (exit ≡ written s entry)
+
+-- what asking hands back, as what is said of the ticket
+abbrev pub ticket_answer : Result ℕ Refusal → TicketAnswer
+ticket_answer (Ok address) = record { address = address; refusal = 0 }
+ticket_answer (Err r) = record { address = 0; refusal = number r }

@@ -1,5 +1,5 @@
 -- The machine at each of its moments, and whether what it remembers is what the rules allow (refusal 28).
-use Rattle.std.specs.Prelude.{ℕ, Bool, true, false, ◌&&◌, ◌||◌, List, eqb, ltb}
+use Rattle.std.specs.Prelude.{ℕ, ◌≡◌, ◌<◌, Bool, true, false, ◌&&◌, ◌||◌, List, eqb, ltb, Result, MatchResult}
 use Rattle.slots.specs.declared.Facts.{Facts}
 use Rattle.rows.specs.declared.Row.{Row}
 use Rattle.free.specs.Free.{address_for, can_assign}
@@ -8,6 +8,7 @@ use Rattle.begins.specs.Begins.{no_addresses, asked_right}
 use Rattle.machine.specs.declared.Machine.{Machine}
 use Rattle.machine.specs.declared.Moment.{Moment}
 use Rattle.machine.specs.declared.Moment.TheVariants.{Idle, Opened, Round, Listening, Offered, Direct}
+use Rattle.machine.specs.declared.moments.UnknownMoment.{UnknownMoment}
 
 -- ---- one machine for each moment: what the moment doesn't need is 0
 
@@ -96,3 +97,17 @@ is_listening Round = false
 is_listening Listening = true
 is_listening Offered = false
 is_listening Direct = false
+
+-- ---- moments by number, for those who show a machine or make one by hand
+
+abbrev pub moment_number : Moment → ℕ
+moment_number Idle = 0
+moment_number Opened = 1
+moment_number Round = 2
+moment_number Listening = 3
+moment_number Offered = 4
+moment_number Direct = 5
+
+-- a number is made the moment that has it, or an error with that number, which no moment has
+abbrev pub Numbers : ℕ → Result Moment UnknownMoment → Type 0
+Numbers n r = MatchResult r (λ moment. moment_number moment ≡ n) (λ e. (e.0 ≡ n) × (5 < n))

@@ -1,72 +1,34 @@
-// What a step comes to, before its cells are written into the lent buffer.
-ghost use Rattle.std.specs.Prelude.{◌≡◌, [], ◌∷◌};
+// What a call comes to: a step that writes its cells, or a refusal.
+ghost use Rattle.std.specs.Prelude.{◌≡◌, ◌≤◌, length};
+ghost use Rattle.refusals.specs.Refusals.{number};
 ghost use Rattle.machine.specs.Steps.{did, refuse};
-ghost use Rattle.machine.specs.Calls.{laid};
+ghost use Rattle.machine.specs.Calls.{stepped, ComesTo};
 
-use crate::Machine;
+use crate::{Machine, Stepped};
+use refusals::Refusal;
 
-// The machine after the step, the cells that it writes in the first `count` of eight places, and its refusal, 0 for none.
-#[derive(Clone, Copy)]
-pub struct Did {
-    pub machine: Machine,
-    pub out: [u16; 8],
-    pub count: usize,
-    pub refusal: u8,
-}
-
-// A refusal: the machine as it was given, and no cells.
-pub fn refused(machine: Machine, refusal: u8) -> Did
-    ensures { result ≡ laid (refuse machine refusal) }
-{
-    Did {
-        machine,
-        out: [0; 8],
-        count: 0,
-        refusal,
+impl Stepped {
+    // A step: the machine after it, and its cells at the front of the lent ones.
+    pub(crate) fn did(machine: Machine, out: &[u16], cells: &mut [u16]) -> Stepped
+        requires { length out.now ≤ length cells.old }
+        ensures { ComesTo (did machine out.now) cells.old result cells.new }
+    {
+        cells[..out.len()].copy_from_slice(out);
+        Stepped {
+            machine,
+            count: out.len(),
+            refusal: 0,
+        }
     }
-}
 
-// A step that writes one to four cells.
-pub fn one(machine: Machine, a: u16) -> Did
-    ensures { result ≡ laid (did machine (a ∷ [])) }
-{
-    Did {
-        machine,
-        out: [a, 0, 0, 0, 0, 0, 0, 0],
-        count: 1,
-        refusal: 0,
-    }
-}
-
-pub fn two(machine: Machine, a: u16, b: u16) -> Did
-    ensures { result ≡ laid (did machine (a ∷ b ∷ [])) }
-{
-    Did {
-        machine,
-        out: [a, b, 0, 0, 0, 0, 0, 0],
-        count: 2,
-        refusal: 0,
-    }
-}
-
-pub fn three(machine: Machine, a: u16, b: u16, c: u16) -> Did
-    ensures { result ≡ laid (did machine (a ∷ b ∷ c ∷ [])) }
-{
-    Did {
-        machine,
-        out: [a, b, c, 0, 0, 0, 0, 0],
-        count: 3,
-        refusal: 0,
-    }
-}
-
-pub fn four(machine: Machine, a: u16, b: u16, c: u16, d: u16) -> Did
-    ensures { result ≡ laid (did machine (a ∷ b ∷ c ∷ d ∷ [])) }
-{
-    Did {
-        machine,
-        out: [a, b, c, d, 0, 0, 0, 0],
-        count: 4,
-        refusal: 0,
+    // A refusal: the machine as it was given, and no cells.
+    pub(crate) fn refused(machine: Machine, refusal: Refusal) -> Stepped
+        ensures { result ≡ stepped (refuse machine (number refusal)) }
+    {
+        Stepped {
+            machine,
+            count: 0,
+            refusal: refusal.number(),
+        }
     }
 }

@@ -9,31 +9,22 @@
 //     retire, ask    what becomes of a ticket
 #![tactic(auto)]
 
-ghost use Rattle.std.specs.Prelude.{◌≡◌, ◌++◌, ◌≤◌, length, take, drop};
+ghost use Rattle.std.specs.Prelude.{◌≡◌, length};
 ghost use Rattle.slots.specs.Slots.{facts_of};
-ghost use Rattle.machine.specs.Refusals.{rest_refusal};
-ghost use Rattle.machine.specs.Calls.{given_up, started, retired, asked, stepped, written, laid};
-ghost use Rattle.machine.specs.Calls.{begun, answered, identified, joined};
+ghost use Rattle.machine.specs.Calls.{begun, answered, identified, given_up, joined, started, retired, asked, stepped, written, ticket_answer};
 
 mod did;
 mod identities;
 mod moments;
-mod refusals;
+mod refused;
 mod steps;
 
-use did::Did;
+use refusals::Refusal;
+use rows::NO_ROW;
 use table::Table;
 
-// Refusals: the call is not of this moment; fewer than 8 cells lent; a machine that breaks the rules. The others are those of `slots` (1, 2),
-// `table` (8, 9) and `begins` (3 to 7, 12).
-pub const WRONG_MOMENT: u8 = 10;
-
-pub const TOO_FEW_CELLS: u8 = 11;
-
-pub const BROKEN_MACHINE: u8 = 28;
-
 // The moments. What each remembers stands beside it; all else is 0.
-#[derive(Clone, Copy)]
+#[derive(Clone, Copy, Debug, PartialEq, Eq)]
 pub enum Moment {
     Idle, // nothing
     Opened, // choice, asked, wanted
@@ -45,7 +36,7 @@ pub enum Moment {
 
 // The table, the moment, and what it remembers: the choice that was begun, the address that it asks (static for a
 // set, present for a move) and the new address wanted; the identity heard and the address that it is offered; the refusals in succession.
-#[derive(Clone, Copy)]
+#[derive(Clone, Copy, Debug, PartialEq, Eq)]
 pub struct Machine {
     pub table: Table,
     pub moment: Moment,
@@ -57,18 +48,12 @@ pub struct Machine {
     pub refusals: u8,
 }
 
-// What a call hands back: the machine, how many cells it wrote, and its refusal, 0 for none.
-#[derive(Clone, Copy)]
+// What a call hands back: the machine, how many cells it wrote, and its refusal, 0 for none. Kept: a Result would not hand back the machine beside
+// the refusal, as document 01 has it ("the new machine with count and refusal").
+#[derive(Clone, Copy, Debug, PartialEq, Eq)]
 pub struct Stepped {
     pub machine: Machine,
     pub count: usize,
-    pub refusal: u8,
-}
-
-// What is said of a ticket: its present address, or 0 and a refusal.
-#[derive(Clone, Copy)]
-pub struct TicketAnswer {
-    pub address: u8,
     pub refusal: u8,
 }
 
@@ -76,105 +61,26 @@ pub struct TicketAnswer {
 pub fn start(flags: u8, legacy: &[u8], last: u32) -> Stepped
     ensures { result ≡ stepped (started (facts_of flags legacy.now last)) }
 {
-    let checked = slots::checked_facts(flags, legacy, last);
-    let facts = checked.facts;
-    let machine = moments::idle(facts, moments::no_rows());
-    let refusal = refusals::start_refusal(checked.right);
-    Stepped {
-        machine,
-        count: 0,
-        refusal,
+    match slots::checked_facts(flags, legacy, last) {
+        Ok(facts) => Stepped {
+            machine: Machine::idle(Table {
+                facts,
+                rows: [NO_ROW; 32],
+            }),
+            count: 0,
+            refusal: 0,
+        },
+        Err(refusal) => {
+            let facts = slots::refused_facts();
+            Stepped::refused(
+                Machine::idle(Table {
+                    facts,
+                    rows: [NO_ROW; 32],
+                }),
+                refusal,
+            )
+        }
     }
-}
-
-// What a step comes to for the caller: its cells go to the front of the lent ones.
-fn emit(step: Did, cells: &mut [u16]) -> Stepped
-    requires { (step.count ≤ 8) × (step.count ≤ length cells.old) }
-    ensures value { result ≡ record { machine = step.machine; count = step.count; refusal = step.refusal } }
-    ensures cells_after { cells.new ≡ take step.count step.out ++ drop step.count cells.old }
-{
-    let out = step.out;
-    let machine = step.machine;
-    put(cells, out, step.count);
-    Stepped {
-        machine,
-        count: step.count,
-        refusal: step.refusal,
-    }
-}
-
-// The first `count` of eight cells go to the front of the lent ones.
-fn put(cells: &mut [u16], out: [u16; 8], count: usize)
-    requires { (count ≤ 8) × (count ≤ length cells.old) }
-    ensures { cells.new ≡ take count out ++ drop count cells.old }
-{
-    let mut i: usize = 0;
-    while i < count {
-        cells[i] = out[i];
-        i += 1;
-    }
-}
-
-// ---- the calls before their cells are written
-
-fn begun(m: Machine, choice: u8, from: u8, new: u8, ticket: u32, room: usize) -> Did
-    ensures { result ≡ laid (begun m choice from new ticket room) }
-{
-    let refusal = refusals::begin_refusal(m, choice, from, new, ticket, room);
-    if refusal != 0 {
-        return did::refused(m, refusal);
-    }
-    steps::begin(m, choice, from, new, ticket)
-}
-
-fn answered(m: Machine, heard: bool, room: usize) -> Did
-    ensures { result ≡ laid (answered m heard room) }
-{
-    let refusal = refusals::step_refusal(m, room);
-    if refusal != 0 {
-        return did::refused(m, refusal);
-    }
-    let moment = m.moment;
-    match moment {
-        Moment::Idle => did::refused(m, WRONG_MOMENT),
-        Moment::Opened => steps::opened_answer(m, heard),
-        Moment::Round => steps::round_answer(m, heard),
-        Moment::Listening => did::refused(m, WRONG_MOMENT),
-        Moment::Offered => steps::offered_answer(m, heard),
-        Moment::Direct => steps::direct_answer(m, heard),
-    }
-}
-
-fn identified(m: Machine, bytes: &[u8], room: usize) -> Did
-    ensures { result ≡ laid (identified m bytes.now room) }
-{
-    let refusal = refusals::identity_refusal(m, bytes.len(), room);
-    if refusal != 0 {
-        return did::refused(m, refusal);
-    }
-    steps::listened(m, bytes)
-}
-
-fn given_up(m: Machine, room: usize) -> Did
-    ensures { result ≡ laid (given_up m room) }
-{
-    let refusal = refusals::give_up_refusal(m, room);
-    if refusal != 0 {
-        return did::refused(m, refusal);
-    }
-    let f = m.table.facts;
-    let rows = m.table.rows;
-    did::one(moments::idle(f, rows), parity::STOP)
-}
-
-fn joined(m: Machine, choice: u8, room: usize) -> Did
-    ensures { result ≡ laid (joined m choice room) }
-{
-    let refusal = refusals::join_refusal(m, choice, room);
-    if refusal != 0 {
-        return did::refused(m, refusal);
-    }
-    steps::join(m, choice)
 }
 
 impl Machine {
@@ -184,8 +90,10 @@ impl Machine {
         ensures value { result ≡ stepped (begun self choice from new ticket (length cells.old)) }
         ensures cells_after { cells.new ≡ written (begun self choice from new ticket (length cells.old)) cells.old }
     {
-        let step = begun(self, choice, from, new, ticket, cells.len());
-        emit(step, cells)
+        match self.begin_refusal(choice, from, new, ticket, cells.len()) {
+            Ok(()) => self.beginning(choice, from, new, ticket, cells),
+            Err(refusal) => Stepped::refused(self, refusal),
+        }
     }
 
     // An answer, or none, to the header or the offered address that went out last: at opened, round, offered and direct.
@@ -193,8 +101,16 @@ impl Machine {
         ensures value { result ≡ stepped (answered self heard (length cells.old)) }
         ensures cells_after { cells.new ≡ written (answered self heard (length cells.old)) cells.old }
     {
-        let step = answered(self, heard, cells.len());
-        emit(step, cells)
+        match self.step_refusal(cells.len()) {
+            Ok(()) => match self.moment {
+                Moment::Idle | Moment::Listening => Stepped::refused(self, Refusal::WrongMoment),
+                Moment::Opened => self.opened_answer(heard, cells),
+                Moment::Round => self.round_answer(heard, cells),
+                Moment::Offered => self.offered_answer(heard, cells),
+                Moment::Direct => self.direct_answer(heard, cells),
+            },
+            Err(refusal) => Stepped::refused(self, refusal),
+        }
     }
 
     // The eight bytes of the identity that won the round, highest first: at listening.
@@ -202,8 +118,10 @@ impl Machine {
         ensures value { result ≡ stepped (identified self bytes.now (length cells.old)) }
         ensures cells_after { cells.new ≡ written (identified self bytes.now (length cells.old)) cells.old }
     {
-        let step = identified(self, bytes, cells.len());
-        emit(step, cells)
+        match self.identity_refusal(bytes.len(), cells.len()) {
+            Ok(()) => self.listened(bytes, cells),
+            Err(refusal) => Stepped::refused(self, refusal),
+        }
     }
 
     // Back to idle with a STOP, rows unchanged: at any moment but idle.
@@ -211,8 +129,10 @@ impl Machine {
         ensures value { result ≡ stepped (given_up self (length cells.old)) }
         ensures cells_after { cells.new ≡ written (given_up self (length cells.old)) cells.old }
     {
-        let step = given_up(self, cells.len());
-        emit(step, cells)
+        match self.give_up_refusal(cells.len()) {
+            Ok(()) => Stepped::did(Machine::idle(self.table), &[parity::STOP], cells),
+            Err(refusal) => Stepped::refused(self, refusal),
+        }
     }
 
     // A board asks to join, at idle: choice 0 turns it away, 1 answers and then silences joining, 2 answers and then assigns.
@@ -220,55 +140,34 @@ impl Machine {
         ensures value { result ≡ stepped (joined self choice (length cells.old)) }
         ensures cells_after { cells.new ≡ written (joined self choice (length cells.old)) cells.old }
     {
-        let step = joined(self, choice, cells.len());
-        emit(step, cells)
-    }
-
-    // What it is refused for that is for idle, before more is asked: 28 if it breaks the rules, 10 if it is at another moment, else 0.
-    pub fn rest_refusal(self) -> u8
-        ensures { result ≡ rest_refusal self 0 }
-    {
-        refusals::rest_refusal(self)
+        match self.join_refusal(choice, cells.len()) {
+            Ok(()) => self.joining(choice, cells),
+            Err(refusal) => Stepped::refused(self, refusal),
+        }
     }
 
     // Removes the row of a ticket, at idle.
     pub fn retire(self, ticket: u32) -> Stepped
         ensures { result ≡ stepped (retired self ticket) }
     {
-        let refusal = refusals::retire_refusal(self, ticket);
-        if refusal != 0 {
-            return Stepped {
-                machine: self,
-                count: 0,
-                refusal,
-            };
-        }
-        let f = self.table.facts;
-        let rows = self.table.rows;
-        let place = rows::place_of_ticket(rows, ticket);
-        let machine = moments::idle(f, changes::without(rows, place));
-        Stepped {
-            machine,
-            count: 0,
-            refusal: 0,
+        match self.retire_refusal(ticket) {
+            Ok(()) => {
+                let rows = steps::without(&self.table.rows, ticket);
+                Stepped {
+                    machine: Machine::idle(Table { rows, ..self.table }),
+                    count: 0,
+                    refusal: 0,
+                }
+            }
+            Err(refusal) => Stepped::refused(self, refusal),
         }
     }
 
     // The present address of a ticket, at any moment.
-    pub fn ask(self, ticket: u32) -> TicketAnswer
-        ensures { result ≡ asked self ticket }
+    pub fn ask(self, ticket: u32) -> Result<u8, Refusal>
+        ensures { ticket_answer result ≡ asked self ticket }
     {
-        let refusal = refusals::ask_refusal(self, ticket);
-        if refusal != 0 {
-            return TicketAnswer {
-                address: 0,
-                refusal,
-            };
-        }
-        let rows = self.table.rows;
-        TicketAnswer {
-            address: steps::address_of(rows, ticket),
-            refusal: 0,
-        }
+        self.ask_refusal(ticket)?;
+        Ok(steps::address_of(&self.table.rows, ticket))
     }
 }

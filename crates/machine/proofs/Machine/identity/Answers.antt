@@ -1,9 +1,20 @@
 -- `machine::Machine::identity` meets its contract.
-use Rattle.machine.proofs.Emits.{handed, left_behind, identified_fits}
+use Rattle.machine.proofs.Laws.{call_refused, nothing_written, call_passed, call_written, room_enough, eight_heard}
+use Rattle.machine.specs.Calls.{identified}
+use Rattle.machine.specs.Refusals.{identity_refusal}
 use Rattle.machine.proofs.Machine.identity.Goals as goal
 
-pub emit-requires : goal.emit-requires
-emit-requires c = rw c.identified-step.ensures (identified_fits _ _ _)
+pub listened-requires-clause-room : goal.listened-requires-clause-room
+unfolding identity_refusal
+listened-requires-clause-room c = room_enough _ _ _ c.in-Ok.ensures
 
-pub returns : goal.returns
-returns c = search (handed, left_behind, identified_fits)
+pub listened-requires-clause-eight : goal.listened-requires-clause-eight
+listened-requires-clause-eight c = eight_heard _ _ _ c.in-Ok.ensures
+
+pub returns-in-Ok : goal.returns-in-Ok
+unfolding identified
+returns-in-Ok c = let e = c.in-Ok.ensures in search (call_passed, call_written)
+
+pub returns-in-Err : goal.returns-in-Err
+unfolding identified
+returns-in-Err c = let e = c.in-Err.ensures in search (call_refused, nothing_written)

@@ -1,9 +1,17 @@
 -- `machine::Machine::join` meets its contract.
-use Rattle.machine.proofs.Emits.{handed, left_behind, joined_fits}
+use Rattle.machine.proofs.Laws.{call_refused, nothing_written, call_passed, call_written, room_enough}
+use Rattle.machine.specs.Calls.{joined}
+use Rattle.machine.specs.Refusals.{join_refusal}
 use Rattle.machine.proofs.Machine.join.Goals as goal
 
-pub emit-requires : goal.emit-requires
-emit-requires c = rw c.joined-step.ensures (joined_fits _ _ _)
+pub joining-requires : goal.joining-requires
+unfolding join_refusal
+joining-requires c = room_enough _ _ _ c.in-Ok.ensures
 
-pub returns : goal.returns
-returns c = search (handed, left_behind, joined_fits)
+pub returns-in-Ok : goal.returns-in-Ok
+unfolding joined
+returns-in-Ok c = let e = c.in-Ok.ensures in search (call_passed, call_written)
+
+pub returns-in-Err : goal.returns-in-Err
+unfolding joined
+returns-in-Err c = let e = c.in-Err.ensures in search (call_refused, nothing_written)

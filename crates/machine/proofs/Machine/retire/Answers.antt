@@ -1,14 +1,12 @@
 -- `machine::Machine::retire` meets its contract.
-use Rattle.machine.proofs.Laws.{retire_refused, retire_passed}
+use Rattle.machine.proofs.Laws.{call_refused, call_passed}
 use Rattle.machine.specs.Calls.{retired}
 use Rattle.machine.proofs.Machine.retire.Goals as goal
 
-pub returns-then-refusal-ne0 : goal.returns-then-refusal-ne0
+pub returns-in-Ok : goal.returns-in-Ok
 unfolding retired
-returns-then-refusal-ne0 c = search retire_refused
+returns-in-Ok c = call_passed _ _ c.in-Ok.ensures (rw (c.idle.ensures, c.without-rows.ensures))
 
-pub returns : goal.returns
+pub returns-in-Err : goal.returns-in-Err
 unfolding retired
-returns c =
-    retire_passed _ _ c.retire_refusal-refusal.ensures c.if-refusal-ne0.false
-    (rw (c.idle-machine.ensures, c.without.ensures, c.place_of_ticket-place.ensures))
+returns-in-Err c = call_refused _ _ _ c.in-Err.ensures c.refused.ensures

@@ -1,10 +1,9 @@
 -- `machine::steps::accepted_rows` meets its contract.
 use Rattle.machine.proofs.Laws.{accepted_known, accepted_new}
-use borrow.Author.Rules.{rules}
 use Rattle.machine.proofs.steps.accepted_rows.Goals as goal
 
-pub returns-then-place-lt32 : goal.returns-then-place-lt32
-returns-then-place-lt32 c = search (accepted_known, rules)
+pub returns-in-Some : goal.returns-in-Some
+returns-in-Some c = accepted_known _ _ _ _ c.in-Some.ensures c.renewed.ensures
 
-pub returns-else-place-lt32 : goal.returns-else-place-lt32
-returns-else-place-lt32 c = search (accepted_new, rules)
+pub returns-in-None : goal.returns-in-None
+returns-in-None c = accepted_new _ _ _ _ c.in-None.ensures c.with_row.ensures

@@ -1,8 +1,0 @@
--- `machine::steps::about_joining` meets its contract.
-use lib.Count.{ones_in}
-use Rattle.parity.specs.Parity.{odd_bit, parity}
-use Rattle.machine.proofs.steps.about_joining.Goals as goal
-
-pub returns : goal.returns
-unfolding odd_bit parity ones_in
-returns c = rw (c.four.ensures, c.idle-next.ensures)
