@@ -2,11 +2,14 @@
 use mathlib.Core.Path.{◌≡◌, refl, ◌∙◌}
 use mathlib.Core.Bool.{Bool, true, false, cond}
 use Prim.Native.Nat.{ℕ, zero, suc, ◌+◌, ◌-◌, ◌*◌, ◌/◌, ◌%◌, ◌^◌, ◌≤◌, ◌<◌}
-use native.Mathlib.Nat.{pow-suc, le_of_suc-le-suc, not-suc-le-zero, one-mul, mod-eq_of_lt}
+use native.Mathlib.Nat.{pow-suc, le_of_suc-le-suc, not-suc-le-zero, one-mul, zero-mul, mod-eq_of_lt}
 use native.Mathlib.Numerals.{add-one}
 use native.Mathlib.Omega.{arith}
 use lib.Count.{ones_in}
 use lib.Dec.{eqb, lit<}
+use Rattle.std.specs.Int.{bit_at}
+use Rattle.std.specs.Int.Bits.{bit_xor, bit_and, xor_add_and}
+use Rattle.std.proofs.lemmas.Nat.Bits.{and_pow, bit_at-lt}
 use lib.Pow.{shl_exact, field, mod-mod-pow}
 use borrow.Author.Tests.{eqb-true, eqb-false, eq-eqb, ne_eqb}
 use Rattle.lists.specs.Bits.{bit}
@@ -73,22 +76,20 @@ flip_turns zero k x h = absurd (not-suc-le-zero h)
 flip_turns (suc n) zero x h = rw (flip_low x).1 (omega (arith, (flip_low x).0))
 flip_turns (suc n) (suc k) x h = rw ((flip-suc k x).0, (flip-suc k x).1) (omega (arith, flip_turns n k (x / 2) (le_of_suc-le-suc h)))
 
--- a number of n bits stays one
-pub flip_lt : (n k x : ℕ) → k < n → x < 2 ^ n → flip k x < 2 ^ n
-flip_lt zero k x h i = absurd (not-suc-le-zero h)
-flip_lt (suc n) zero x h i = let p = pow-suc 2 n in omega (arith, (flip_low x).1)
-flip_lt (suc n) (suc k) x h i =
-    let p = pow-suc 2 n in
-    omega (arith, (flip-suc k x).1, flip_lt n k (x / 2) (le_of_suc-le-suc h) (omega arith))
-
--- a flip by hand, by the bit that a shift brings down
-pub flip_down : (k x : ℕ) → x / 2 ^ k % 2 ≡ 1 → (flip k x ≡ x - 2 ^ k) × (2 ^ k ≤ x)
+-- a flip by hand: the exclusive or with what the bit is worth
+pub flip_xor : (k x : ℕ) → flip k x ≡ bit_xor x (2 ^ k)
 unfolding flip bit
-flip_down k x e = (rw (eq-eqb _ _ e), bit_there k x (eq-eqb _ _ e))
-
-pub flip_up : (k x : ℕ) → (x / 2 ^ k % 2 ≡ 1 → ⊥) → flip k x ≡ x + 2 ^ k
-unfolding flip bit
-flip_up k x e = rw (ne_eqb _ _ e)
+flip_xor k x = go (eqb (bit_at x k) 1) refl
+  where
+    go : (b : Bool) → eqb (bit_at x k) 1 ≡ b → cond b (x - 2 ^ k) (x + 2 ^ k) ≡ bit_xor x (2 ^ k)
+    go true e =
+        let one : bit_at x k ≡ 1 = eqb-true _ _ e in
+        let both : bit_and x (2 ^ k) ≡ 2 ^ k = and_pow x k ∙ rw one (one-mul (2 ^ k)) in
+        omega (arith, xor_add_and x (2 ^ k))
+    go false e =
+        let none : bit_at x k ≡ 0 = omega (arith, eqb-false (bit_at x k) 1 e, bit_at-lt x k) in
+        let neither : bit_and x (2 ^ k) ≡ 0 = and_pow x k ∙ rw none (zero-mul (2 ^ k)) in
+        omega (arith, xor_add_and x (2 ^ k))
 
 -- `1 << k` in a byte
 pub worth : (k : ℕ) → k < 8 → (1 * 2 ^ k) % 2 ^ 8 ≡ 2 ^ k

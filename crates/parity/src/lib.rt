@@ -5,7 +5,7 @@
 
 ghost use Rattle.std.specs.Prelude.{◌≡◌, ◌<◌};
 ghost use Rattle.parity.specs.Parity.{odd_bit, odd_ones};
-ghost use Rattle.parity.specs.Parity.{flip, flipped};
+ghost use Rattle.parity.specs.Parity.{flipped};
 ghost use Rattle.parity.specs.Cells.{data_cell, answer_cell, identity_cell, write_byte, offered_byte, named_cells};
 ghost use Rattle.parity.specs.Cells.{clocks};
 
@@ -88,14 +88,14 @@ pub fn ninth_bit(byte: u8) -> u8
 pub fn data_cell(byte: u8) -> u16
     ensures { result ≡ data_cell byte }
 {
-    (byte as u16) * 2 + (ninth_bit(byte) as u16)
+    u16::from(byte) * 2 + u16::from(ninth_bit(byte))
 }
 
 // The cell of a header or of an offered address byte, by whether it was answered.
 pub fn answer_cell(byte: u8, answered: bool) -> u16
     ensures { result ≡ answer_cell byte answered }
 {
-    let cell = (byte as u16) * 2;
+    let cell = u16::from(byte) * 2;
     if answered { cell } else { cell + 1 }
 }
 
@@ -103,21 +103,20 @@ pub fn answer_cell(byte: u8, answered: bool) -> u16
 pub fn identity_cell(byte: u8) -> u16
     ensures { result ≡ identity_cell byte }
 {
-    IDENTITY + (byte as u16)
+    IDENTITY + u16::from(byte)
 }
 
 // How many clocks a cell took on the bus.
+#[tactic(auto, unfolding(crate::specs::Cells::is_identity))]
 pub fn clocks(cell: u16) -> u16
     ensures small { result < 10 }
     ensures value { result ≡ clocks cell }
 {
-    if cell < 512 {
-        return 9;
+    match cell {
+        ..512 => 9,
+        1024..=1279 => 8,
+        _ => 0,
     }
-    if (1024 <= cell) & (cell <= 1279) {
-        return 8;
-    }
-    0
 }
 
 // The byte of a header that writes to an address, and of a new address sent as data: the address above a 0. An address is seven bits, and of a
@@ -143,22 +142,9 @@ pub fn odd_ones(byte: u8) -> bool
     ninth_bit(byte) == 0
 }
 
-// A byte with one bit the other way.
-fn flip(k: u8, byte: u8) -> u8
-    requires { k < 8 }
-    ensures { result ≡ flip k byte }
-{
-    let worth: u8 = 1 << k;
-    if (byte >> k) % 2 == 1 {
-        byte - worth
-    } else {
-        byte + worth
-    }
-}
-
 // A byte after a flip: 0 to 7 turns the bit of value 2 to that power, 8 and more turn none.
 pub fn flipped(k: u8, byte: u8) -> u8
     ensures { result ≡ flipped k byte }
 {
-    if k < 8 { flip(k, byte) } else { byte }
+    if k < 8 { byte ^ (1 << k) } else { byte }
 }

@@ -1,13 +1,17 @@
 -- How a record goes on from a point: what each function of the reader cites.
 use Prim.Native.Nat.{ℕ, zero, suc, ◌+◌, ◌<◌, ◌≤◌}
 use mathlib.Core.Path.{◌≡◌, refl, sym, ◌∙◌}
-use mathlib.Core.Bool.{Bool, true, false, not, true≢false}
+use mathlib.Core.Bool.{Bool, true, false, cond, not, true≢false}
 use mathlib.Core.List.{List}
+use mathlib.Core.Logic.{◌⊎◌, ⊎_elim}
 use native.Mathlib.Omega.{arith}
 use lib.Count.{ones_in}
-use lib.Dec.{ltb}
+use lib.Dec.{ltb, eqb}
 use lib.ListN.{length, drop, drop_of_length-le, get_or-eq_default}
 use borrow.Author.Tests.{ltb-true, ltb-false, ne_eqb, not-true, not-false}
+use Rattle.std.specs.Prelude.{Result}
+use Rattle.std.specs.Result.{IsErrAnd}
+use Rattle.std.proofs.lemmas.Result.{err_from_is_err_and}
 use Rattle.lists.proofs.Lists.{drop_step}
 use Rattle.parity.specs.Parity.{odd_bit, parity}
 use Rattle.parity.specs.Cells.{is_identity}
@@ -19,10 +23,10 @@ use Rattle.readings.specs.declared.Command.TheVariants.{Assign, ResetAll, SetFro
 use Rattle.readings.specs.declared.Command.TheVariants as commands
 use Rattle.readings.specs.declared.Reading.{Reading}
 use Rattle.readings.specs.Readings.{command_number, may_follow, bare, directed}
-use Rattle.reader.specs.declared.Answer.{Answer}
 use Rattle.reader.specs.Points.{Point, start, opening, again, reopening, command, event, header, new_address, round, offer, behind, ending}
 use Rattle.reader.specs.Points.{Next, nowhere, to, commanded, next, address_in, answered_in, is_write_byte, is_new_address, is_offered, command_of}
-use Rattle.reader.specs.Read.{says, breaks, stopped, lead, from, cell_at}
+use Rattle.reader.specs.declared.Fault.{Fault}
+use Rattle.reader.specs.Read.{Answer, fault_answer, answer_of, says, breaks, stopped, lead, from, cell_at}
 
 -- what the cells say from a point at the place `at` on
 abbrev pub read_at : Point → List ℕ → ℕ → Answer
@@ -81,21 +85,39 @@ module _ (p : Point) (s : List ℕ) (at : ℕ) {x : ℕ} {a : Answer} (cell : x 
   pub to_ending : {q r : Reading} → q ≡ r → a ≡ read_at (ending q) s (at + 1) → to (ending r) ≡ next p x → a ≡ read_at p s at
   to_ending same h e = onward (ending _) (h ∙ rw same) e
 
+-- the same where the cell is a number: to another point, and to STOP, with the reading as a call gave it
+module _ (p : Point) (s : List ℕ) (at : ℕ) {x n : ℕ} {a : Answer} (cell : x ≡ cell_at s at) (is : x ≡ n) where
+  pub onward_at : (p' : Point) → a ≡ read_at p' s (at + 1) → to p' ≡ next p n → a ≡ read_at p s at
+  onward_at p' h e = onward p s at cell p' h (rw is e)
+
+  pub ending_at : {q r : Reading} → q ≡ r → a ≡ read_at (ending q) s (at + 1) → to (ending r) ≡ next p n → a ≡ read_at p s at
+  ending_at same h e = to_ending p s at cell same h (rw is e)
+
+-- ---- a cell that must stand at a place
+
+-- where it doesn't, what `?` hands on is the whole record's answer
+pub unmet : (p : Point) (s : List ℕ) (at n : ℕ) (met : Next) → ((x : ℕ) → next p x ≡ cond (eqb x n) met nowhere)
+    → (r : Result Reading Fault) {handed : Fault → Type 0} → IsErrAnd r handed
+    → (f : Fault) → ((e : Fault) → handed e → e ≡ f) → (cell_at s at ≡ n → ⊥) × (fault_answer f ≡ breaks at) → answer_of r ≡ read_at p s at
+unmet p s at n met only r h f same (other, broken) =
+    let (e, q, g) = err_from_is_err_and r h in
+    rw (q, same e g) (stuck p s at refl (sym (only (cell_at s at) ∙ rw (ne_eqb (cell_at s at) n other))) broken)
+
 -- a repeated START
-pub again_on : (p : Point) (s : List ℕ) (at : ℕ) {x : ℕ} {a : Answer} → x ≡ cell_at s at → x ≡ 513 → a ≡ read_at p s (at + 1)
-    → a ≡ read_at (again p) s at
-unfolding next
-again_on p s at cell e h = onward (again p) s at cell p h (rw e)
+module _ (p : Point) (s : List ℕ) (at : ℕ) {a : Answer} where
+  pub again_on : cell_at s at ≡ 513 → a ≡ read_at p s (at + 1) → a ≡ read_at (again p) s at
+  unfolding next
+  again_on e h = onward (again p) s at refl p h (rw e)
 
 -- STOP, with nothing behind it, and with something
-module _ (r : Reading) (s : List ℕ) (at : ℕ) {x : ℕ} {a : Answer} (cell : x ≡ cell_at s at) (stop : x ≡ 514) where
-  pub stop_last : length s ≤ at + 1 → a ≡ says r → a ≡ read_at (ending r) s at
+module _ (r : Reading) (s : List ℕ) (at : ℕ) (stop : cell_at s at ≡ 514) where
+  pub stop_last : length s ≤ at + 1 → says r ≡ read_at (ending r) s at
   unfolding next stopped
-  stop_last l h = h ∙ sym (from_at (ending r) s at ∙ rw (← cell, stop, drop_of_length-le s {i = at + 1} l))
+  stop_last l = sym (from_at (ending r) s at ∙ rw (stop, drop_of_length-le s {i = at + 1} l))
 
-  pub stop_early : at + 1 < length s → a ≡ breaks (at + 1) → a ≡ read_at (ending r) s at
+  pub stop_early : at + 1 < length s → {a : Answer} → a ≡ breaks (at + 1) → a ≡ read_at (ending r) s at
   unfolding next stopped
-  stop_early l h = h ∙ sym (from_at (ending r) s at ∙ rw (← cell, stop, drop_step s (at + 1) 65535 l))
+  stop_early l h = h ∙ sym (from_at (ending r) s at ∙ rw (stop, drop_step s (at + 1) 65535 l))
 
 -- ---- a cell that passes a test that 65,535 does not pass stands before the end
 
@@ -118,24 +140,19 @@ module _ (s : List ℕ) (at : ℕ) {x : ℕ} (cell : x ≡ cell_at s at) where
   unfolding is_offered
   offered_stands e = stands_by is_offered refl (not-false _ e)
 
-  pub identity_stands : not (is_identity x) ≡ false → at + 1 ≤ length s
-  unfolding is_identity
-  identity_stands e = stands_by is_identity refl (not-false _ e)
-
   pub command_stands : {k : Command} → k ≡ command_of x → (d : Command) → k ≡ d → ltb 0 (command_number d) ≡ true → at + 1 ≤ length s
   unfolding command_of odd_bit parity ones_in
   command_stands told d e some = stands_by (λ y. ltb 0 (command_number (command_of y))) refl (rw (← told, e) some)
 
+  pub either_stands : {k : Command} → k ≡ command_of x → (d e : Command) → (k ≡ d) ⊎ (k ≡ e) → ltb 0 (command_number d) ≡ true
+      → ltb 0 (command_number e) ≡ true → at + 1 ≤ length s
+  either_stands told d e h f g = ⊎_elim (λ i. command_stands told d i f) (λ i. command_stands told e i g) h
+
 -- ---- the first two cells
 
-module _ (s : List ℕ) {x : ℕ} {a : Answer} (cell : x ≡ cell_at s 0) where
-  pub started : x ≡ 512 → a ≡ read_at opening s 1 → a ≡ from start s 0
-  unfolding next
-  started e h = onward start s 0 cell opening h (rw e)
-
-  pub not-started : (x ≡ 512 → ⊥) → a ≡ breaks 0 → a ≡ from start s 0
-  unfolding next
-  not-started e h = stuck start s 0 cell (rw (ne_eqb x 512 e)) h
+pub started : (s : List ℕ) {a : Answer} → cell_at s 0 ≡ 512 → a ≡ read_at opening s 1 → a ≡ from start s 0
+unfolding next
+started s e h = onward start s 0 refl opening h (rw e)
 
 pub two_stand : (s : List ℕ) {x : ℕ} → x ≡ cell_at s 1 → (n : ℕ) → x ≡ n → ltb n 65535 ≡ true → 2 ≤ length s
 two_stand s cell n e h = stands s 1 cell n e h
@@ -161,20 +178,14 @@ module _ (j : Joining) {k : Command} where
   pub reset_leads : k ≡ ResetAll → to (ending (bare j k)) ≡ commanded j k
   reset_leads e = rw e
 
-  pub set_leads : k ≡ SetFromStatic → to (again (header k)) ≡ commanded j k
-  set_leads e = rw e
+  pub header_leads : (k ≡ SetFromStatic) ⊎ (k ≡ Move) → to (again (header k)) ≡ commanded j k
+  header_leads h = ⊎_elim (λ e. rw e) (λ e. rw e) h
 
-  pub move_leads : k ≡ Move → to (again (header k)) ≡ commanded j k
-  move_leads e = rw e
-
-  pub silence_leads : k ≡ Silence → to (event j k) ≡ commanded j k
-  silence_leads e = rw e
-
-  pub allow_leads : k ≡ Allow → to (event j k) ≡ commanded j k
-  allow_leads e = rw e
+  pub event_leads : (k ≡ Silence) ⊎ (k ≡ Allow) → to (event j k) ≡ commanded j k
+  event_leads h = ⊎_elim (λ e. rw e) (λ e. rw e) h
 
 -- for `search leads`: where each command leads
-pub ruleset leads = (none_leads, assign_leads, reset_leads, set_leads, move_leads, silence_leads, allow_leads)
+pub ruleset leads = (none_leads, assign_leads, reset_leads, header_leads, event_leads)
 
 -- ---- the header of a set or a move, and the new address behind it
 

@@ -1,3 +1,4 @@
+pub mod Commands
 pub mod Cells
 pub mod Laws
 pub mod Rounds

@@ -1,5 +1,5 @@
 -- What the reader answers, and what it leaves in the offers buffer.
-use Rattle.std.specs.Prelude.{ℕ, zero, suc, ◌+◌, ◌*◌, ◌%◌, cond, not, List, [], ◌∷◌, ◌++◌, map, ltb, eqb, length, get_or, drop}
+use Rattle.std.specs.Prelude.{ℕ, zero, suc, ◌+◌, ◌*◌, ◌%◌, ◌≡◌, Result, Ok, Err, MatchResult, cond, not, List, [], ◌∷◌, ◌++◌, map, ltb, eqb, length, get_or, drop}
 use Rattle.lists.specs.Numbers.{numbers}
 use Rattle.readings.specs.declared.Joining.{Joining}
 use Rattle.readings.specs.declared.Joining.TheVariants.{Refused, Answered}
@@ -7,10 +7,17 @@ use Rattle.readings.specs.declared.Joining.TheVariants as joinings
 use Rattle.readings.specs.declared.Command.TheVariants as commands
 use Rattle.readings.specs.declared.Reading.{Reading}
 use Rattle.readings.specs.Readings.{bare}
-use Rattle.reader.specs.declared.Answer.{Answer}
+use Rattle.refusals.specs.Refusals.{number}
+use Rattle.reader.specs.declared.Fault.{Fault}
 use Rattle.reader.specs.Points.{Point, Next, nowhere, to, over, start, next, byte_of, ninth_of}
 
 -- ---- the answer
+
+-- the reading, the refusal (0 for none) and its place
+pub record Answer : Type 0 where
+  pub reading : Reading
+  pub refusal : ℕ
+  pub place : ℕ
 
 -- a reading, refused by nothing
 abbrev pub says : Reading → Answer
@@ -23,6 +30,14 @@ refused n place = record { reading = bare joinings.None commands.None; refusal =
 -- no layout fits: the place, counted from 0, of the first cell that can't continue one, or the length if the record breaks off
 abbrev pub breaks : ℕ → Answer
 breaks place = refused 14 place
+
+-- what the reader gives, as an answer: no two results are the same one
+abbrev pub fault_answer : Fault → Answer
+fault_answer f = refused (number f.refusal) f.place
+
+abbrev pub answer_of : Result Reading Fault → Answer
+answer_of (Ok r) = says r
+answer_of (Err f) = fault_answer f
 
 -- ---- the cells, one after the other
 
@@ -47,6 +62,11 @@ from p (x ∷ xs) at = lead (next p x) at (λ p'. from p' xs (at + 1)) (λ r. st
 -- the cell at a place; 65,535, which leads nowhere, past the end
 abbrev pub cell_at : List ℕ → ℕ → ℕ
 cell_at cells place = get_or cells place 65535
+
+-- the cell that must stand at a place does, or no layout fits there
+abbrev pub Stands : List ℕ → ℕ → ℕ → Result (Unit {0}) Fault → Type 0
+Stands cells place x r =
+    MatchResult r (λ _. cell_at cells place ≡ x) (λ f. (cell_at cells place ≡ x → ⊥) × (fault_answer f ≡ breaks place))
 
 -- the byte of an identity's cell, its lowest eight bits
 abbrev pub identity_byte : ℕ → ℕ

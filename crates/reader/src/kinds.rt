@@ -1,4 +1,6 @@
 // What a cell is.
+#![tactic(auto, unfolding(parity::specs::Cells::is_identity, crate::specs::Points::is_write_byte, crate::specs::Points::is_new_address, crate::specs::Points::is_offered))]
+
 ghost use Rattle.std.specs.Prelude.{◌≡◌};
 ghost use Rattle.parity.specs.Cells.{is_identity};
 ghost use Rattle.reader.specs.Points.{byte_of, address_in, answered_in, is_write_byte, is_new_address, is_offered, command_of};
@@ -30,7 +32,7 @@ pub fn answered_in(cell: u16) -> bool
 pub fn is_identity(cell: u16) -> bool
     ensures { result ≡ is_identity cell }
 {
-    (1024 <= cell) & (cell <= 1279)
+    matches!(cell, 1024..=1279)
 }
 
 // A byte with a 0 as its lowest bit: a header that writes, or a new address.
@@ -55,26 +57,17 @@ pub fn is_offered(cell: u16) -> bool
 }
 
 // The command of a cell with its right ninth bit; none for any other cell.
+#[tactic(auto, using(crate::proofs::Commands::command_numbers))]
 pub fn command_of(cell: u16) -> Command
     ensures { result ≡ command_of cell }
 {
-    if cell == parity::ASSIGN {
-        return Command::Assign;
+    match cell {
+        parity::ASSIGN => Command::Assign,
+        parity::RESET_ALL => Command::ResetAll,
+        parity::SET_FROM_STATIC => Command::SetFromStatic,
+        parity::MOVE => Command::Move,
+        parity::SILENCE => Command::Silence,
+        parity::ALLOW => Command::Allow,
+        _ => Command::None,
     }
-    if cell == parity::RESET_ALL {
-        return Command::ResetAll;
-    }
-    if cell == parity::SET_FROM_STATIC {
-        return Command::SetFromStatic;
-    }
-    if cell == parity::MOVE {
-        return Command::Move;
-    }
-    if cell == parity::SILENCE {
-        return Command::Silence;
-    }
-    if cell == parity::ALLOW {
-        return Command::Allow;
-    }
-    Command::None
 }

@@ -6,49 +6,58 @@
 
 ghost use Rattle.std.specs.Prelude.{◌≡◌, length};
 ghost use Rattle.lists.specs.Buffers.{lay};
-ghost use Rattle.reader.specs.Read.{answer_to, offers_to};
+ghost use Rattle.reader.specs.Read.{fault_answer, answer_of, answer_to, breaks, offers_to};
 
-mod answers;
 mod kinds;
 mod offers;
 mod points;
 
-use answers::refused;
 use readings::{MOST_CELLS, Reading};
+use refusals::Refusal;
 
-// Refusals, beside NO_LAYOUT: more than 1,024 cells; a buffer shorter than ten bytes an offer.
-pub const TOO_LONG: u8 = 13;
-
-pub const NO_ROOM: u8 = 15;
-
-// What a record says, or a refusal, 0 for none. With NO_LAYOUT, the place of the first cell that can't continue a layout, counted from 0, or the
-// length of a record that breaks off. After a refusal all else is 0.
-#[derive(Clone, Copy)]
-pub struct Answer {
-    pub reading: Reading,
-    pub refusal: u8,
+// Why a record is refused, and where. With NoLayout the place is that of the first cell that can't continue a layout, counted from 0, or the length of
+// a record that breaks off; else it is 0.
+#[derive(Clone, Copy, Debug, PartialEq, Eq)]
+pub struct Fault {
+    pub refusal: Refusal,
     pub place: usize,
 }
 
-// What these cells say. The offers go to the front of the buffer, ten bytes each; what lies behind them stays, and all of it after a refusal.
-pub fn read(cells: &[u16], buffer: &mut [u8]) -> Answer
-    ensures value { result ≡ answer_to cells.now (length buffer.old) }
+impl Fault {
+    // The cell at this place can't continue a layout, or the record breaks off there.
+    fn at(place: usize) -> Self
+        ensures { fault_answer result ≡ breaks place }
+    {
+        Fault {
+            refusal: Refusal::NoLayout,
+            place,
+        }
+    }
+}
+
+// The record as a whole is refused, at no place.
+impl From<Refusal> for Fault {
+    ghost from_gives = { λ r f. f ≡ record { refusal = r; place = 0 } };
+
+    fn from(refusal: Refusal) -> Self {
+        Fault { refusal, place: 0 }
+    }
+}
+
+// What these cells say, or a refusal: over 1,024 cells, no layout, a buffer shorter than ten bytes an offer. The offers go to the front of the buffer,
+// ten bytes each; what lies behind them stays, and all of it after a refusal.
+pub fn read(cells: &[u16], buffer: &mut [u8]) -> Result<Reading, Fault>
+    ensures value { answer_of result ≡ answer_to cells.now (length buffer.old) }
     ensures buffer_after { buffer.new ≡ lay (offers_to cells.now (length buffer.old)) buffer.old }
 {
     if MOST_CELLS < cells.len() {
-        return refused(TOO_LONG, 0);
+        return Err(Fault::from(Refusal::TooLong));
     }
-    let answer = points::record(cells);
-    if answer.refusal != 0 {
-        return answer;
-    }
-    let reading = answer.reading;
-    let joining = reading.joining;
-    let count = reading.offers;
+    let reading = points::record(cells)?;
     // divided, since ten times the count might not fit
-    if buffer.len() / 10 < count {
-        return refused(NO_ROOM, 0);
+    if buffer.len() / 10 < reading.offers {
+        return Err(Fault::from(Refusal::NoRoom));
     }
-    offers::put(cells, offers::rounds_at(joining), count, buffer);
-    answer
+    offers::put(cells, reading, buffer);
+    Ok(reading)
 }

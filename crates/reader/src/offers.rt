@@ -1,14 +1,14 @@
 // The offers of a record that was read, ten bytes each.
 ghost use Rattle.std.specs.Prelude.{◌≡◌, ◌+◌, ◌*◌, ◌^◌, ◌≤◌, ◌<◌, length, drop};
 ghost use Rattle.lists.specs.Buffers.{lay_at, lay};
-ghost use Rattle.reader.specs.Read.{ten_of, tens_of, rounds_at};
+ghost use Rattle.reader.specs.Read.{ten_of, rounds_at, offers_of};
 
 use crate::kinds;
 use crate::points::cell_at;
-use readings::Joining;
+use readings::{Joining, Reading};
 
 // How many cells stand before the first round header.
-pub fn rounds_at(joining: Joining) -> usize
+fn rounds_at(joining: Joining) -> usize
     ensures small { result < 8 }
     ensures value { result ≡ rounds_at joining }
 {
@@ -24,24 +24,21 @@ fn put_one(cells: &[u16], from: usize, at: usize, buffer: &mut [u8])
     requires { (from + 9 < 2 ^ 64) × (at + 10 ≤ length buffer.old) }
     ensures { buffer.new ≡ lay_at at (ten_of (drop from cells.now)) buffer.old }
 {
-    let mut k: usize = 0;
-    while k < 8 {
+    for k in 0..8 {
         buffer[at + k] = (cell_at(cells, from + 1 + k) % 256) as u8;
-        k += 1;
     }
     let offered = cell_at(cells, from + 9);
     buffer[at + 8] = kinds::byte_of(offered);
     buffer[at + 9] = (offered % 2) as u8;
 }
 
-// The ten bytes of each of so many offers, the first of whose round headers stands at `from`.
-pub fn put(cells: &[u16], from: usize, count: usize, buffer: &mut [u8])
-    requires { (from < 8) × (10 * count ≤ length buffer.old) }
-    ensures { buffer.new ≡ lay (tens_of count (drop from cells.now)) buffer.old }
+// The ten bytes of every offer of a record that says this.
+pub fn put(cells: &[u16], reading: Reading, buffer: &mut [u8])
+    requires { 10 * reading.offers ≤ length buffer.old }
+    ensures { buffer.new ≡ lay (offers_of reading cells.now) buffer.old }
 {
-    let mut i: usize = 0;
-    while i < count {
+    let from = rounds_at(reading.joining);
+    for i in 0..reading.offers {
         put_one(cells, from + 11 * i, 10 * i, buffer);
-        i += 1;
     }
 }

@@ -1,5 +1,5 @@
 -- What a record says: joining, command, addresses, whether headers answered, and how many offers.
-use Rattle.std.specs.Prelude.{ℕ, Bool, true, false, [], ◌∷◌, eqb}
+use Rattle.std.specs.Prelude.{◌≡◌, ◌<◌, ℕ, Bool, true, false, [], ◌∷◌, eqb, Result, MatchResult}
 use Rattle.lists.specs.Numbers.{one_of}
 use Rattle.readings.specs.declared.Joining.{Joining}
 use Rattle.readings.specs.declared.Joining.TheVariants.{Refused, Answered}
@@ -7,6 +7,7 @@ use Rattle.readings.specs.declared.Joining.TheVariants as joinings
 use Rattle.readings.specs.declared.Command.{Command}
 use Rattle.readings.specs.declared.Command.TheVariants.{Assign, ResetAll, SetFromStatic, Move, Silence, Allow}
 use Rattle.readings.specs.declared.Command.TheVariants as commands
+use Rattle.readings.specs.declared.NumberUnknown.{NumberUnknown}
 use Rattle.readings.specs.declared.Reading.{Reading}
 
 -- ---- the numbers
@@ -26,6 +27,13 @@ command_number SetFromStatic = 3
 command_number Move = 4
 command_number Silence = 5
 command_number Allow = 6
+
+-- the joining or the command that a number stands for, or that it stands for none
+abbrev pub JoiningOf : ℕ → Result Joining NumberUnknown → Type 0
+JoiningOf n r = MatchResult r (λ j. joining_number j ≡ n) (λ e. (e.0 ≡ n) × (2 < n))
+
+abbrev pub CommandOf : ℕ → Result Command NumberUnknown → Type 0
+CommandOf n r = MatchResult r (λ c. command_number c ≡ n) (λ e. (e.0 ≡ n) × (6 < n))
 
 -- after an answered joining only a silent 7Eh (0), assign (1) or silence (5) may follow; after a refused one nothing does
 abbrev pub may_follow : Joining → Command → Bool

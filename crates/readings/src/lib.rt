@@ -5,25 +5,23 @@
 #![tactic(auto)]
 
 ghost use Rattle.std.specs.Prelude.{◌≡◌};
-ghost use Rattle.readings.specs.Readings.{joining_number, command_number, may_follow};
+ghost use Rattle.readings.specs.Readings.{joining_number, command_number, JoiningOf, CommandOf, may_follow};
 ghost use Rattle.readings.specs.Readings.{bare, directed, assigned};
 
 // The longest record.
 pub const MOST_CELLS: usize = 1024;
 
-// The refusal that reader and writer share: no layout fits.
-pub const NO_LAYOUT: u8 = 14;
-
-// Whether a board asked to join, and what it was told.
-#[derive(Clone, Copy)]
+// Whether a board asked to join, and what it was told. None is a case like the others: the paper numbers all three, and a record has a layout for each.
+#[derive(Clone, Copy, Debug, PartialEq, Eq)]
 pub enum Joining {
     None,
     Refused,
     Answered,
 }
 
-// The command, or none: nobody answered 7Eh, or a joining was refused.
-#[derive(Clone, Copy)]
+// The command, or none: nobody answered 7Eh, or a joining was refused. None is a case like the others: the paper numbers all seven, and a record has a
+// layout for each.
+#[derive(Clone, Copy, Debug, PartialEq, Eq)]
 pub enum Command {
     None,
     Assign,
@@ -34,8 +32,12 @@ pub enum Command {
     Allow,
 }
 
+// A number that stands for no joining, or for no command.
+#[derive(Clone, Copy, Debug, PartialEq, Eq)]
+pub struct NumberUnknown(pub u8);
+
 // What a command doesn't use is 0 (false).
-#[derive(Clone, Copy)]
+#[derive(Clone, Copy, Debug, PartialEq, Eq)]
 pub struct Reading {
     pub joining: Joining,
     pub command: Command,
@@ -76,15 +78,48 @@ impl Command {
     }
 }
 
-// Whether a command may follow a joining: any behind none, none behind a refused one; none (0), assign (1) or silence (5) behind an answered one.
+impl TryFrom<u8> for Joining {
+    type Error = NumberUnknown;
+
+    ghost try_from_gives = { JoiningOf };
+
+    fn try_from(number: u8) -> Result<Self, NumberUnknown> {
+        match number {
+            0 => Ok(Joining::None),
+            1 => Ok(Joining::Refused),
+            2 => Ok(Joining::Answered),
+            _ => Err(NumberUnknown(number)),
+        }
+    }
+}
+
+impl TryFrom<u8> for Command {
+    type Error = NumberUnknown;
+
+    ghost try_from_gives = { CommandOf };
+
+    fn try_from(number: u8) -> Result<Self, NumberUnknown> {
+        match number {
+            0 => Ok(Command::None),
+            1 => Ok(Command::Assign),
+            2 => Ok(Command::ResetAll),
+            3 => Ok(Command::SetFromStatic),
+            4 => Ok(Command::Move),
+            5 => Ok(Command::Silence),
+            6 => Ok(Command::Allow),
+            _ => Err(NumberUnknown(number)),
+        }
+    }
+}
+
+// Whether a command may follow a joining: any behind none, none behind a refused one; none, assign or silence behind an answered one.
 pub fn may_follow(joining: Joining, command: Command) -> bool
     ensures { result ≡ may_follow joining command }
 {
-    let number = command.number();
     match joining {
         Joining::None => true,
-        Joining::Refused => number == 0,
-        Joining::Answered => (number == 0) | (number == 1) | (number == 5),
+        Joining::Refused => command == Command::None,
+        Joining::Answered => matches!(command, Command::None | Command::Assign | Command::Silence),
     }
 }
 
@@ -93,8 +128,8 @@ pub fn bare(joining: Joining, command: Command) -> Reading
     ensures { result ≡ bare joining command }
 {
     Reading {
-        joining: joining,
-        command: command,
+        joining,
+        command,
         header: 0,
         new: 0,
         direct: false,
@@ -108,13 +143,10 @@ pub fn directed(command: Command, header: u8, new: u8, answered: bool) -> Readin
     ensures { result ≡ directed command header new answered }
 {
     Reading {
-        joining: Joining::None,
-        command: command,
-        header: header,
-        new: new,
+        header,
+        new,
         direct: answered,
-        last: false,
-        offers: 0,
+        ..bare(Joining::None, command)
     }
 }
 
@@ -123,12 +155,8 @@ pub fn assigned(joining: Joining, offers: usize, last: bool) -> Reading
     ensures { result ≡ assigned joining offers last }
 {
     Reading {
-        joining: joining,
-        command: Command::Assign,
-        header: 0,
-        new: 0,
-        direct: false,
-        last: last,
-        offers: offers,
+        last,
+        offers,
+        ..bare(joining, Command::Assign)
     }
 }

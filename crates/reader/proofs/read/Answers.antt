@@ -1,30 +1,29 @@
 -- `reader::read` meets its contract: a record that is too long, one that breaks, offers that have no room, and a record that is read.
+use mathlib.Core.Path.{ap}
+use Rattle.reader.specs.Read.{fault_answer}
 use Rattle.reader.proofs.Bytes.{too_long, broken, no_room, well_read}
-use borrow.Author.Rules.{rules}
 use Rattle.reader.proofs.read.Goals as goal
 
 pub returns-then-cells-gt-MOST_CELLS : goal.returns-then-cells-gt-MOST_CELLS
 returns-then-cells-gt-MOST_CELLS c =
     let a = c.args in
-    let both = too_long a.cells.now a.buffer.now c.if-cells-gt-MOST_CELLS.true c.refused.ensures in
+    let both = too_long a.cells.now a.buffer.now c.if-cells-gt-MOST_CELLS.true (ap fault_answer c.from.ensures) in
     record { value = both.0; buffer_after = both.1 }
 
-pub returns-then-answer-ne0 : goal.returns-then-answer-ne0
-returns-then-answer-ne0 c =
+pub returns-in_err-reading : goal.returns-in_err-reading
+returns-in_err-reading c =
     let a = c.args in
-    let both = broken a.cells.now a.buffer.now c.if-cells-gt-MOST_CELLS.false _ c.record-answer.ensures (search rules) in
+    let both = broken a.cells.now a.buffer.now c.if-cells-gt-MOST_CELLS.false _ c.from_residual.ensures.1 _ (λ e h. h) c.in_err-reading.ensures in
     record { value = both.0; buffer_after = both.1 }
 
-pub returns-then-buffer-count : goal.returns-then-buffer-count
-returns-then-buffer-count c =
+pub returns-then-buffer-reading : goal.returns-then-buffer-reading
+returns-then-buffer-reading c =
     let a = c.args in
-    let both = no_room a.cells.now a.buffer.now c.if-cells-gt-MOST_CELLS.false _ c.record-answer.ensures (search rules) c.if-buffer-count.true c.refused-then-buffer-count.ensures in
+    let both = no_room a.cells.now a.buffer.now c.if-cells-gt-MOST_CELLS.false _ c.in_ok-reading.ensures c.if-buffer-reading.true (ap fault_answer c.from-then-buffer-reading.ensures) in
     record { value = both.0; buffer_after = both.1 }
 
 pub returns : goal.returns
 returns c =
     let a = c.args in
-    let place = c.rounds_at.ensures.value in
-    let room = c.if-buffer-count.false in
-    let both = well_read a.cells.now a.buffer.now c.if-cells-gt-MOST_CELLS.false _ c.record-answer.ensures (search rules) room place _ c.put.ensures in
+    let both = well_read a.cells.now a.buffer.now c.if-cells-gt-MOST_CELLS.false _ c.in_ok-reading.ensures c.if-buffer-reading.false _ c.put.ensures in
     record { value = both.0; buffer_after = both.1 }

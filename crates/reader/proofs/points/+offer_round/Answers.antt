@@ -1,9 +1,9 @@
 -- The cycle of `reader::points::offer` and `reader::points::round` meets their contracts.
-use Rattle.std.proofs.Common.{arith, ◌+◌, ◌≤◌, length}
+use Rattle.std.proofs.Common.{refl, arith, ◌+◌, ◌≤◌, length}
 use Rattle.lists.proofs.Bools.{chain, via_not}
 use borrow.Author.Tests.{not-true}
 use Rattle.reader.specs.Points.{next}
-use Rattle.reader.proofs.Laws.{stuck, onward, to_ending, again_on, offered_stands}
+use Rattle.reader.proofs.Laws.{unmet, stuck, onward_at, ending_at, again_on, offered_stands}
 use Rattle.reader.proofs.Rounds.{heard_few, heard_eight, offered_last, offered_again}
 use Rattle.reader.proofs.points.+offer_round.Goals as goal
 
@@ -25,18 +25,18 @@ offer-round-requires t c =
 pub offer-returns : goal.offer-returns
 offer-returns t c = search (heard_eight, offered_again, via_not)
 
-pub round-returns-then-cell_at-ne-REPEATED_START : goal.round-returns-then-cell_at-ne-REPEATED_START
+pub round-returns-in_err-expect : goal.round-returns-in_err-expect
 unfolding next
-round-returns-then-cell_at-ne-REPEATED_START t c = search (stuck, chain)
+round-returns-in_err-expect t c = unmet _ _ _ _ _ (λ x. refl) _ c.from_residual.ensures.1 _ (λ e h. h) c.in_err-expect.ensures
 
-pub round-returns-then-cell-eq-BROADCAST_READ_ANSWERED : goal.round-returns-then-cell-eq-BROADCAST_READ_ANSWERED
+pub round-returns-in-506 : goal.round-returns-in-506
 unfolding next
-round-returns-then-cell-eq-BROADCAST_READ_ANSWERED t c = search (again_on, onward, chain)
+round-returns-in-506 t c = let met = c.in_ok-expect.ensures in search (again_on, onward_at)
 
-pub round-returns-then-cell-ne-BROADCAST_READ_SILENT : goal.round-returns-then-cell-ne-BROADCAST_READ_SILENT
+pub round-returns-in-507 : goal.round-returns-in-507
 unfolding next
-round-returns-then-cell-ne-BROADCAST_READ_SILENT t c = search (again_on, stuck, chain)
+round-returns-in-507 t c = let met = c.in_ok-expect.ensures in search (again_on, ending_at)
 
-pub round-returns : goal.round-returns
+pub round-returns-in_default : goal.round-returns-in_default
 unfolding next
-round-returns t c = search (again_on, to_ending, chain)
+round-returns-in_default t c = let met = c.in_ok-expect.ensures in search (again_on, stuck, chain)

@@ -1,6 +1,6 @@
 -- `reader::points::command` meets its contract: each command leads its own way.
 use Rattle.lists.proofs.Bools.{via_not}
-use Rattle.reader.proofs.Laws.{stuck, onward, to_ending, said, unsaid, leads, command_stands}
+use Rattle.reader.proofs.Laws.{stuck, onward, to_ending, said, unsaid, leads, command_stands, either_stands}
 use borrow.Author.Rules.{rules}
 use Rattle.reader.proofs.points.command.Goals as goal
 
@@ -14,16 +14,10 @@ pub ending-requires : goal.ending-requires
 ending-requires c = search command_stands
 
 pub header-requires : goal.header-requires
-header-requires c = search command_stands
-
-pub header-requires-in-Move : goal.header-requires-in-Move
-header-requires-in-Move c = search command_stands
+header-requires c = search either_stands
 
 pub event-requires : goal.event-requires
-event-requires c = search command_stands
-
-pub event-requires-in-Allow : goal.event-requires-in-Allow
-event-requires-in-Allow c = search command_stands
+event-requires c = search either_stands
 
 pub returns-in-None : goal.returns-in-None
 returns-in-None c = search (stuck, said, leads, via_not)
@@ -37,11 +31,5 @@ returns-in-ResetAll c = search (to_ending, said, leads, via_not)
 pub returns-in-SetFromStatic : goal.returns-in-SetFromStatic
 returns-in-SetFromStatic c = search (onward, said, leads, via_not)
 
-pub returns-in-Move : goal.returns-in-Move
-returns-in-Move c = search (onward, said, leads, via_not)
-
 pub returns-in-Silence : goal.returns-in-Silence
 returns-in-Silence c = search (onward, said, leads, via_not)
-
-pub returns-in-Allow : goal.returns-in-Allow
-returns-in-Allow c = search (onward, said, leads, via_not)

@@ -1,15 +1,15 @@
 -- `reader::points::event` meets its contract.
+use mathlib.Core.Path.{refl}
 use lib.Count.{ones_in}
-use Rattle.lists.proofs.Bools.{chain}
 use Rattle.parity.specs.Parity.{odd_bit, parity}
 use Rattle.reader.specs.Points.{next}
-use Rattle.reader.proofs.Laws.{stuck, to_ending}
+use Rattle.reader.proofs.Laws.{unmet, ending_at}
 use Rattle.reader.proofs.points.event.Goals as goal
 
-pub returns-then-cell_at-ne-JOINING : goal.returns-then-cell_at-ne-JOINING
+pub returns-in_err-expect : goal.returns-in_err-expect
 unfolding next odd_bit parity ones_in
-returns-then-cell_at-ne-JOINING c = search (stuck, chain)
+returns-in_err-expect c = unmet _ _ _ _ _ (λ x. refl) _ c.from_residual.ensures.1 _ (λ e h. h) c.in_err-expect.ensures
 
 pub returns : goal.returns
 unfolding next odd_bit parity ones_in
-returns c = search (to_ending, chain)
+returns c = let met = c.in_ok-expect.ensures in search ending_at

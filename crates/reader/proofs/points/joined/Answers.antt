@@ -1,21 +1,22 @@
 -- `reader::points::joined` meets its contract.
+use mathlib.Core.Path.{refl}
 use Rattle.lists.proofs.Bools.{chain}
 use Rattle.reader.specs.Points.{next}
-use Rattle.reader.proofs.Laws.{stuck, onward, to_ending, again_on}
+use Rattle.reader.proofs.Laws.{unmet, stuck, onward_at, ending_at, again_on}
 use Rattle.reader.proofs.points.joined.Goals as goal
 
-pub returns-then-cell_at-ne-REPEATED_START : goal.returns-then-cell_at-ne-REPEATED_START
+pub returns-in_err-expect : goal.returns-in_err-expect
 unfolding next
-returns-then-cell_at-ne-REPEATED_START c = search (stuck, chain)
+returns-in_err-expect c = unmet _ _ _ _ _ (λ x. refl) _ c.from_residual.ensures.1 _ (λ e h. h) c.in_err-expect.ensures
 
-pub returns-then-cell-eq-BROADCAST_WRITE_ANSWERED : goal.returns-then-cell-eq-BROADCAST_WRITE_ANSWERED
+pub returns-in-504 : goal.returns-in-504
 unfolding next
-returns-then-cell-eq-BROADCAST_WRITE_ANSWERED c = search (again_on, onward, chain)
+returns-in-504 c = let met = c.in_ok-expect.ensures in search (again_on, onward_at)
 
-pub returns-then-cell-ne-BROADCAST_WRITE_SILENT : goal.returns-then-cell-ne-BROADCAST_WRITE_SILENT
+pub returns-in-505 : goal.returns-in-505
 unfolding next
-returns-then-cell-ne-BROADCAST_WRITE_SILENT c = search (again_on, stuck, chain)
+returns-in-505 c = let met = c.in_ok-expect.ensures in search (again_on, ending_at)
 
-pub returns : goal.returns
+pub returns-in_default : goal.returns-in_default
 unfolding next
-returns c = search (again_on, to_ending, chain)
+returns-in_default c = let met = c.in_ok-expect.ensures in search (again_on, stuck, chain)

@@ -1,28 +1,30 @@
 -- `reader::points::record` meets its contract.
+use mathlib.Core.Path.{refl}
 use Rattle.lists.proofs.Bools.{chain}
 use Rattle.reader.specs.Points.{next}
-use Rattle.reader.proofs.Laws.{stuck, onward, to_ending, started, not-started}
+use Rattle.reader.proofs.Laws.{unmet, stuck, onward_at, ending_at, started}
 use Rattle.reader.proofs.points.record.Goals as goal
 
-pub returns-then-cell_at-ne-START : goal.returns-then-cell_at-ne-START
-returns-then-cell_at-ne-START c = search not-started
-
-pub returns-then-cell-eq-BROADCAST_WRITE_ANSWERED : goal.returns-then-cell-eq-BROADCAST_WRITE_ANSWERED
+pub returns-in_err-expect : goal.returns-in_err-expect
 unfolding next
-returns-then-cell-eq-BROADCAST_WRITE_ANSWERED c = search (started, onward, chain)
+returns-in_err-expect c = unmet _ _ _ _ _ (λ x. refl) _ c.from_residual.ensures.1 _ (λ e h. h) c.in_err-expect.ensures
 
-pub returns-then-cell-eq-BROADCAST_WRITE_SILENT : goal.returns-then-cell-eq-BROADCAST_WRITE_SILENT
+pub returns-in-504 : goal.returns-in-504
 unfolding next
-returns-then-cell-eq-BROADCAST_WRITE_SILENT c = search (started, to_ending, chain)
+returns-in-504 c = let met = c.in_ok-expect.ensures in search (started, onward_at)
 
-pub returns-then-cell-eq-HOT_JOIN_ANSWERED : goal.returns-then-cell-eq-HOT_JOIN_ANSWERED
+pub returns-in-505 : goal.returns-in-505
 unfolding next
-returns-then-cell-eq-HOT_JOIN_ANSWERED c = search (started, onward, chain)
+returns-in-505 c = let met = c.in_ok-expect.ensures in search (started, ending_at)
 
-pub returns-then-cell-eq-HOT_JOIN_REFUSED : goal.returns-then-cell-eq-HOT_JOIN_REFUSED
+pub returns-in-8 : goal.returns-in-8
 unfolding next
-returns-then-cell-eq-HOT_JOIN_REFUSED c = search (started, to_ending, chain)
+returns-in-8 c = let met = c.in_ok-expect.ensures in search (started, onward_at)
 
-pub returns : goal.returns
+pub returns-in-9 : goal.returns-in-9
 unfolding next
-returns c = search (started, stuck, chain)
+returns-in-9 c = let met = c.in_ok-expect.ensures in search (started, ending_at)
+
+pub returns-in_default : goal.returns-in_default
+unfolding next
+returns-in_default c = let met = c.in_ok-expect.ensures in search (started, stuck, chain)
