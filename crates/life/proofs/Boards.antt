@@ -167,23 +167,23 @@ module _ (f : Facts) (rows : List Row) where
 
 -- over any calls: each row in use afterwards has a ticket given since, or is of the same board as a row before
 pub same_boards : (cs : List Call) (m : Machine)
-    → all (λ r. not (in_use r) || (ltb m.facts.last r.ticket || any (same_board r) m.rows)) (after_all cs m).rows ≡ true
-same_boards [] m = stems_as_is m.facts m.rows
+    → all (λ r. not (in_use r) || (ltb m.table.facts.last r.ticket || any (same_board r) m.table.rows)) (after_all cs m).table.rows ≡ true
+same_boards [] m = stems_as_is m.table.facts m.table.rows
 same_boards (c ∷ cs) m =
     let m' = after c m in
-    all_mono (stems m'.facts m'.rows) (stems m.facts m.rows)
-    (stems_on m.facts m.rows m'.facts m'.rows (grows c m).rises
-    (call_leads (λ f' rows'. all (stems m.facts m.rows) rows' ≡ true) m (call_boards m.facts m.rows) c))
-    (after_all cs m').rows (same_boards cs m')
+    all_mono (stems m'.table.facts m'.table.rows) (stems m.table.facts m.table.rows)
+    (stems_on m.table.facts m.table.rows m'.table.facts m'.table.rows (grows c m).rises
+    (call_leads (λ f' rows'. all (stems m.table.facts m.table.rows) rows' ≡ true) m (call_boards m.table.facts m.table.rows) c))
+    (after_all cs m').table.rows (same_boards cs m')
 
 -- so a ticket given before names the board that it named, ever after
-pub ticket_keeps_board : (cs : List Call) (m : Machine) (t k : ℕ) → k < length (after_all cs m).rows → has_ticket t (row_at (after_all cs m).rows k) ≡ true
-    → t ≤ m.facts.last → any (same_board (row_at (after_all cs m).rows k)) m.rows ≡ true
+pub ticket_keeps_board : (cs : List Call) (m : Machine) (t k : ℕ) → k < length (after_all cs m).table.rows → has_ticket t (row_at (after_all cs m).table.rows k) ≡ true
+    → t ≤ m.table.facts.last → any (same_board (row_at (after_all cs m).table.rows k)) m.table.rows ≡ true
 ticket_keeps_board cs m t k inside has low =
-    let r = row_at (after_all cs m).rows k in
+    let r = row_at (after_all cs m).table.rows k in
     let u = both (in_use r) (eqb r.ticket t) has in
-    let old : ltb m.facts.last r.ticket ≡ false = le-ltb m.facts.last r.ticket (omega (arith, eqb-true r.ticket t u.1)) in
-    rw old at (so_there (in_use r) (all_at (stems m.facts m.rows) (after_all cs m).rows k no_row (same_boards cs m) inside) u.0)
+    let old : ltb m.table.facts.last r.ticket ≡ false = le-ltb m.table.facts.last r.ticket (omega (arith, eqb-true r.ticket t u.1)) in
+    rw old at (so_there (in_use r) (all_at (stems m.table.facts m.table.rows) (after_all cs m).table.rows k no_row (same_boards cs m) inside) u.0)
 
 -- ---- a ticket is given where the last rises
 
@@ -227,10 +227,10 @@ module _ (f : Facts) (rows : List Row) where
   }
 
 -- the last rises only on a right machine
-rises_right : (c : Call) (m : Machine) → ltb m.facts.last (after c m).facts.last ≡ true → machine_right m ≡ true
+rises_right : (c : Call) (m : Machine) → ltb m.table.facts.last (after c m).table.facts.last ≡ true → machine_right m ≡ true
 rises_right c m =
-    refused_or (λ (n : Machine). ltb m.facts.last n.facts.last ≡ true → machine_right m ≡ true) c m
-    (λ h. absurd (omega (arith, ltb-true m.facts.last m.facts.last h))) (λ right h. right)
+    refused_or (λ (n : Machine). ltb m.table.facts.last n.table.facts.last ≡ true → machine_right m ≡ true) c m
+    (λ h. absurd (omega (arith, ltb-true m.table.facts.last m.table.facts.last h))) (λ right h. right)
 
 -- whose rows do not have the next
 next_unused : (f : Facts) (rows : List Row) → sound f rows ≡ true → holds_ticket (new_ticket f) rows ≡ false
@@ -251,10 +251,10 @@ new_there t others (r ∷ rows) none h =
     h
 
 -- a call gives a ticket exactly where it raises the last, and then just that one
-pub given_exactly : (c : Call) (m : Machine) → given c m ≡ cond (ltb m.facts.last (after c m).facts.last) ((after c m).facts.last ∷ []) []
+pub given_exactly : (c : Call) (m : Machine) → given c m ≡ cond (ltb m.table.facts.last (after c m).table.facts.last) ((after c m).table.facts.last ∷ []) []
 given_exactly c m =
-    let old = m.facts.last in
-    let new = (after c m).facts.last in
+    let old = m.table.facts.last in
+    let new = (after c m).table.facts.last in
     one_number new (given c m) (given_is_last c m) (one_given c m) ∙
     ap (λ b. cond b (new ∷ []) [])
     (agree (any (eqb new) (given c m)) (ltb old new)
@@ -263,7 +263,7 @@ given_exactly c m =
     (given-all c m (λ t. ltb old new) (λ t next last. lt-ltb old new (omega (arith, next, last))))
     (find_lt (eqb new) (given c m) some))
     (λ rises.
-    let next : new ≡ new_ticket m.facts = omega (arith, (grows c m).next, ltb-true old new rises) in
-    new_there new m.rows (after c m).rows
-    (ap (λ t. holds_ticket t m.rows) next ∙ next_unused m.facts m.rows (right_says m (rises_right c m rises)).0)
-    (call_leads (Gives m.facts) m (call_gives m.facts m.rows) c rises)))
+    let next : new ≡ new_ticket m.table.facts = omega (arith, (grows c m).next, ltb-true old new rises) in
+    new_there new m.table.rows (after c m).table.rows
+    (ap (λ t. holds_ticket t m.table.rows) next ∙ next_unused m.table.facts m.table.rows (right_says m (rises_right c m rises)).0)
+    (call_leads (Gives m.table.facts) m (call_gives m.table.facts m.table.rows) c rises)))

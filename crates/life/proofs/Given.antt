@@ -36,9 +36,9 @@ abbrev pub stepping : Call → Machine → Step
 stepping (begin choice static new ticket room) m = beginning m choice static new ticket
 stepping (answer heard room) m = answer_at m.moment m heard
 stepping (identity bytes room) m = listened m bytes
-stepping (give_up room) m = did (idle m.facts m.rows) (stop_cell ∷ [])
+stepping (give_up room) m = did (idle m.table.facts m.table.rows) (stop_cell ∷ [])
 stepping (join choice room) m = joining m choice
-stepping (retire ticket) m = did (idle m.facts (without (place_of_ticket ticket m.rows) m.rows)) []
+stepping (retire ticket) m = did (idle m.table.facts (without (place_of_ticket ticket m.table.rows) m.table.rows)) []
 stepping (ask ticket) m = refuse m 0
 
 -- the number that it is refused with, 0 for none
@@ -112,7 +112,7 @@ pub record Changes (P : Facts → List Row → Type 0) (f : Facts) (rows : List 
 
 -- the round rule leaves the table as it is
 pub onward_has : (P : Facts → List Row → Type 0) (on : Bool) (f : Facts) (rows : List Row) (k : ℕ) → P f rows
-    → P (onward_machine on f rows k).facts (onward_machine on f rows k).rows
+    → P (onward_machine on f rows k).table.facts (onward_machine on f rows k).table.rows
 onward_has P true f rows k h = h
 onward_has P false f rows k h = h
 
@@ -160,15 +160,15 @@ module _ (P : Facts → List Row → Type 0) (f : Facts) (rows : List Row) (ways
       let t = simp and-eq-true_iff at (found_passes (has_identity id) rows no_row inside) in
       ways.one_renewed k inside t.0.0
 
-module _ (P : Facts → List Row → Type 0) (m : Machine) (ways : Changes P m.facts m.rows) where
+module _ (P : Facts → List Row → Type 0) (m : Machine) (ways : Changes P m.table.facts m.table.rows) where
   -- a step leads to a table with P
   abbrev Leads : Step → Type 0
-  Leads s = P s.machine.facts s.machine.rows
+  Leads s = P s.machine.table.facts s.machine.table.rows
 
   commanded_leads : Leads (commanded m)
   unfolding commanded round_rule
   commanded_leads =
-      cond_by Leads (eqb m.choice 0) (λ e. onward_has P (can_assign m.facts m.rows) m.facts m.rows 0 ways.as_is)
+      cond_by Leads (eqb m.choice 0) (λ e. onward_has P (can_assign m.table.facts m.table.rows) m.table.facts m.table.rows 0 ways.as_is)
       (λ e. cond_by Leads (eqb m.choice 1) (λ e. ways.cleared)
       (λ e. cond_by Leads (eqb m.choice 2) (λ e. ways.as_is)
       (λ e. cond_by Leads (eqb m.choice 3) (λ e. ways.as_is)
@@ -185,8 +185,8 @@ module _ (P : Facts → List Row → Type 0) (m : Machine) (ways : Changes P m.f
   accepted_leads : right_at Offered m ≡ true → Leads (accepted m)
   unfolding accepted round_rule accepted_rows
   accepted_leads right =
-      let f = m.facts in
-      let rows = m.rows in
+      let f = m.table.facts in
+      let rows = m.table.rows in
       let t = simp and-eq-true_iff at right in
       let offer : m.offered ≡ address_for f rows m.identity = eqb-true m.offered (address_for f rows m.identity) t.1 in
       let rows' = accepted_rows rows m.identity m.offered (new_ticket f) in
@@ -199,19 +199,19 @@ module _ (P : Facts → List Row → Type 0) (m : Machine) (ways : Changes P m.f
 
   declined_leads : Leads (declined m)
   unfolding declined
-  declined_leads = onward_has P (eqb m.refusals 0) m.facts m.rows 1 ways.as_is
+  declined_leads = onward_has P (eqb m.refusals 0) m.table.facts m.table.rows 1 ways.as_is
 
-  directed_leads : right_at Direct m ≡ true → P (directed m).facts (directed m).rows
+  directed_leads : right_at Direct m ≡ true → P (directed m).table.facts (directed m).table.rows
   unfolding directed
   directed_leads right =
       let t = simp and-eq-true_iff at right in
-      cond_by (λ (n : Machine). P n.facts n.rows) (eqb m.choice 2)
+      cond_by (λ (n : Machine). P n.table.facts n.table.rows) (eqb m.choice 2)
       (λ e.
-      let new = set_says m.facts m.rows m.choice m.asked m.wanted e t.1.0.0 in
-      ways.one_more (set_row m.wanted (new_ticket m.facts) m.asked) refl new.0 new.1)
+      let new = set_says m.table.facts m.table.rows m.choice m.asked m.wanted e t.1.0.0 in
+      ways.one_more (set_row m.wanted (new_ticket m.table.facts) m.asked) refl new.0 new.1)
       (λ e.
-      moved_leads P m.facts m.rows ways m.asked m.wanted
-      (move_held m.facts m.rows m.choice m.asked m.wanted t.0 e t.1.0.0))
+      moved_leads P m.table.facts m.table.rows ways m.asked m.wanted
+      (move_held m.table.facts m.table.rows m.choice m.asked m.wanted t.0 e t.1.0.0))
 
   direct_leads : right_at Direct m ≡ true → (heard : Bool) → Leads (direct_answer m heard)
   unfolding direct_answer
@@ -234,12 +234,12 @@ module _ (P : Facts → List Row → Type 0) (m : Machine) (ways : Changes P m.f
   stepping_leads (identity bytes room) right = ways.as_is
   stepping_leads (give_up room) right = ways.as_is
   stepping_leads (join choice room) right = cond_by Leads (eqb choice 0) (λ e. ways.as_is) (λ e. ways.as_is)
-  stepping_leads (retire ticket) right = ways.one_less (place_of_ticket ticket m.rows)
+  stepping_leads (retire ticket) right = ways.one_less (place_of_ticket ticket m.table.rows)
   stepping_leads (ask ticket) right = ways.as_is
 
   -- and any call of any machine
-  pub call_leads : (c : Call) → P (after c m).facts (after c m).rows
-  call_leads c = refused_or (λ (n : Machine). P n.facts n.rows) c m ways.as_is (stepping_leads c)
+  pub call_leads : (c : Call) → P (after c m).table.facts (after c m).table.rows
+  call_leads c = refused_or (λ (n : Machine). P n.table.facts n.table.rows) c m ways.as_is (stepping_leads c)
 
 -- ---- the tickets after a change of the rows, beside those before it
 
@@ -308,5 +308,5 @@ changes_grow f rows = record {
 }
 
 -- and after any call of any machine
-pub grows : (c : Call) (m : Machine) → Grows m.facts m.rows (after c m).facts (after c m).rows
-grows c m = call_leads (Grows m.facts m.rows) m (changes_grow m.facts m.rows) c
+pub grows : (c : Call) (m : Machine) → Grows m.table.facts m.table.rows (after c m).table.facts (after c m).table.rows
+grows c m = call_leads (Grows m.table.facts m.table.rows) m (changes_grow m.table.facts m.table.rows) c

@@ -80,43 +80,43 @@ abbrev Right : Step → Type 0
 Right s = machine_right s.machine ≡ true
 
 -- a right machine's table is sound, and it is right at its moment
-pub right_says : (m : Machine) → machine_right m ≡ true → (sound m.facts m.rows ≡ true) × (right_at m.moment m ≡ true)
+pub right_says : (m : Machine) → machine_right m ≡ true → (sound m.table.facts m.table.rows ≡ true) × (right_at m.moment m ≡ true)
 unfolding machine_right moment_right
-right_says m h = both (sound m.facts m.rows) (right_at m.moment m) h
+right_says m h = both (sound m.table.facts m.table.rows) (right_at m.moment m) h
 
-module _ (m : Machine) (h : sound m.facts m.rows ≡ true) where
+module _ (m : Machine) (h : sound m.table.facts m.table.rows ≡ true) where
   -- back to idle, with the rows as they are
-  back_to_idle : machine_right (idle m.facts m.rows) ≡ true
-  back_to_idle = idle_right m.facts m.rows h
+  back_to_idle : machine_right (idle m.table.facts m.table.rows) ≡ true
+  back_to_idle = idle_right m.table.facts m.table.rows h
 
   -- a Begin
-  beginning_right : (choice static new ticket : ℕ) → choice_refusal m.facts m.rows choice static new ticket ≡ 0
+  beginning_right : (choice static new ticket : ℕ) → choice_refusal m.table.facts m.table.rows choice static new ticket ≡ 0
       → Right (beginning m choice static new ticket)
   unfolding beginning
   beginning_right choice static new ticket k =
-      opened_right m.facts m.rows h choice (address_asked m.rows choice static ticket) (address_wanted choice new)
-      (begin_asks_right m.facts m.rows choice static new ticket k)
+      opened_right m.table.facts m.table.rows h choice (address_asked m.table.rows choice static ticket) (address_wanted choice new)
+      (begin_asks_right m.table.facts m.table.rows choice static new ticket k)
 
   -- a Join
-  joining_right : (choice : ℕ) → joining_refusal m.facts m.rows choice ≡ 0 → Right (joining m choice)
+  joining_right : (choice : ℕ) → joining_refusal m.table.facts m.table.rows choice ≡ 0 → Right (joining m choice)
   unfolding joining
   joining_right choice k =
       cond_by Right (eqb choice 0) (λ e. back_to_idle)
-      (λ e. opened_right m.facts m.rows h (cond (eqb choice 1) 4 0) 0 0 (join_asks_right m.facts m.rows choice k e))
+      (λ e. opened_right m.table.facts m.table.rows h (cond (eqb choice 1) 4 0) 0 0 (join_asks_right m.table.facts m.table.rows choice k e))
 
   -- what is asked, by the number of its choice
-  asked_by : (k : ℕ) → eqb m.choice k ≡ true → asked_right m.facts m.rows m.choice m.asked m.wanted ≡ true
-      → asked_right m.facts m.rows k m.asked m.wanted ≡ true
-  asked_by k e a = subst (λ c. asked_right m.facts m.rows c m.asked m.wanted ≡ true) (eqb-true m.choice k e) a
+  asked_by : (k : ℕ) → eqb m.choice k ≡ true → asked_right m.table.facts m.table.rows m.choice m.asked m.wanted ≡ true
+      → asked_right m.table.facts m.table.rows k m.asked m.wanted ≡ true
+  asked_by k e a = subst (λ c. asked_right m.table.facts m.table.rows c m.asked m.wanted ≡ true) (eqb-true m.choice k e) a
 
   -- opened, by choice: assign, reset all, set from static, move, silence and allow
-  commanded_right : asked_right m.facts m.rows m.choice m.asked m.wanted ≡ true → Right (commanded m)
+  commanded_right : asked_right m.table.facts m.table.rows m.choice m.asked m.wanted ≡ true → Right (commanded m)
   unfolding commanded
   commanded_right a =
-      cond_by Right (eqb m.choice 0) (λ e. round_rule_right m.facts m.rows h _) λ _.
-      cond_by Right (eqb m.choice 1) (λ e. idle_right m.facts (replicate 32 no_row) (empty_sound m.facts (sound-says h).facts)) λ _.
-      cond_by Right (eqb m.choice 2) (λ e. direct_right m.facts m.rows h m.choice m.asked m.wanted (rw e) a) λ _.
-      cond_by Right (eqb m.choice 3) (λ e. direct_right m.facts m.rows h m.choice m.asked m.wanted (or_right (eqb m.choice 2) e) a) λ _.
+      cond_by Right (eqb m.choice 0) (λ e. round_rule_right m.table.facts m.table.rows h _) λ _.
+      cond_by Right (eqb m.choice 1) (λ e. idle_right m.table.facts (replicate 32 no_row) (empty_sound m.table.facts (sound-says h).facts)) λ _.
+      cond_by Right (eqb m.choice 2) (λ e. direct_right m.table.facts m.table.rows h m.choice m.asked m.wanted (rw e) a) λ _.
+      cond_by Right (eqb m.choice 3) (λ e. direct_right m.table.facts m.table.rows h m.choice m.asked m.wanted (or_right (eqb m.choice 2) e) a) λ _.
       cond_by Right (eqb m.choice 4) (λ e. back_to_idle) (λ e. back_to_idle)
 
   -- opened, with an answer or none
@@ -129,29 +129,29 @@ module _ (m : Machine) (h : sound m.facts m.rows ≡ true) where
   unfolding round_answer
   round_answer_right heard r =
       let t = simp and-eq-true_iff at r in
-      cond_by Right heard (λ e. listening_right m.facts m.rows h m.refusals t.0.0.1 t.0.1) (λ e. back_to_idle)
+      cond_by Right heard (λ e. listening_right m.table.facts m.table.rows h m.refusals t.0.0.1 t.0.1) (λ e. back_to_idle)
 
   -- an identity heard
   listened_right : (bytes : List ℕ) → right_at Listening m ≡ true → Right (listened m bytes)
   unfolding listened
   listened_right bytes r =
-      let t = simp and-eq-true_iff at r in offering_right m.facts m.rows h m.refusals t.0.0.1 t.0.1 (identity_of bytes)
+      let t = simp and-eq-true_iff at r in offering_right m.table.facts m.table.rows h m.refusals t.0.0.1 t.0.1 (identity_of bytes)
 
   -- an offer accepted
   accepted_right : right_at Offered m ≡ true → Right (accepted m)
   unfolding accepted
   accepted_right r =
       let t = simp and-eq-true_iff at r in
-      let offer = eqb-true m.offered (address_for m.facts m.rows m.identity) t.1 in
-      round_rule_right (ticketed m.facts) (accepted_rows m.rows m.identity m.offered (new_ticket m.facts))
-      (subst (λ a. sound (ticketed m.facts) (accepted_rows m.rows m.identity a (new_ticket m.facts)) ≡ true) (sym offer)
-      (accepted-sound m.facts m.rows m.identity h t.0.1))
+      let offer = eqb-true m.offered (address_for m.table.facts m.table.rows m.identity) t.1 in
+      round_rule_right (ticketed m.table.facts) (accepted_rows m.table.rows m.identity m.offered (new_ticket m.table.facts))
+      (subst (λ a. sound (ticketed m.table.facts) (accepted_rows m.table.rows m.identity a (new_ticket m.table.facts)) ≡ true) (sym offer)
+      (accepted-sound m.table.facts m.table.rows m.identity h t.0.1))
       _
 
   -- an offer declined
   declined_right : right_at Offered m ≡ true → Right (declined m)
   unfolding declined
-  declined_right r = let t = simp and-eq-true_iff at r in onward_right m.facts m.rows h (eqb m.refusals 0) 1 refl (λ e. t.0.1)
+  declined_right r = let t = simp and-eq-true_iff at r in onward_right m.table.facts m.table.rows h (eqb m.refusals 0) 1 refl (λ e. t.0.1)
 
   -- direct: a set, and a move
   directed_right : right_at Direct m ≡ true → machine_right (directed m) ≡ true
@@ -159,8 +159,8 @@ module _ (m : Machine) (h : sound m.facts m.rows ≡ true) where
   directed_right r =
       let t = simp and-eq-true_iff at r in
       cond_by (λ n. machine_right n ≡ true) (eqb m.choice 2)
-      (λ e. idle_right (ticketed m.facts) _ (set-sound m.facts m.rows m.asked m.wanted h (asked_by 2 e t.1.0.0)))
-      (λ e. idle_right m.facts _ (moved-sound m.facts m.rows m.asked m.wanted h (asked_by 3 (rw e at t.0) t.1.0.0)))
+      (λ e. idle_right (ticketed m.table.facts) _ (set-sound m.table.facts m.table.rows m.asked m.wanted h (asked_by 2 e t.1.0.0)))
+      (λ e. idle_right m.table.facts _ (moved-sound m.table.facts m.table.rows m.asked m.wanted h (asked_by 3 (rw e at t.0) t.1.0.0)))
 
   -- direct, with an answer or none
   direct_answer_right : (heard : Bool) → right_at Direct m ≡ true → Right (direct_answer m heard)
@@ -206,7 +206,7 @@ at_listening Direct m l r = absurd (false≢true l)
 
 module _ (m : Machine) (h : machine_right m ≡ true) where
   -- its table is sound
-  table_sound : sound m.facts m.rows ≡ true
+  table_sound : sound m.table.facts m.table.rows ≡ true
   table_sound = (right_says m h).0
 
   -- a refused call leaves the machine as it is
@@ -238,7 +238,7 @@ module _ (m : Machine) (h : machine_right m ≡ true) where
   -- giving up
   given_up_right : (room : ℕ) → Right (given_up m room)
   unfolding given_up
-  given_up_right room = unless_right (give_up_refusal m room) (did (idle m.facts m.rows) (stop_cell ∷ [])) (λ k. back_to_idle m table_sound)
+  given_up_right room = unless_right (give_up_refusal m room) (did (idle m.table.facts m.table.rows) (stop_cell ∷ [])) (λ k. back_to_idle m table_sound)
 
   -- Join
   joined_right : (choice room : ℕ) → Right (joined m choice room)
@@ -251,9 +251,9 @@ module _ (m : Machine) (h : machine_right m ≡ true) where
   retired_right : (ticket : ℕ) → Right (retired m ticket)
   unfolding retired
   retired_right ticket =
-      let place = place_of_ticket ticket m.rows in
-      unless_right (retire_refusal m ticket) (did (idle m.facts (without place m.rows)) [])
-      (λ k. idle_right m.facts (without place m.rows) (removed_sound m.facts m.rows place table_sound))
+      let place = place_of_ticket ticket m.table.rows in
+      unless_right (retire_refusal m ticket) (did (idle m.table.facts (without place m.table.rows)) [])
+      (λ k. idle_right m.table.facts (without place m.table.rows) (removed_sound m.table.facts m.table.rows place table_sound))
 
 -- any call
 pub keeps : (c : Call) (m : Machine) → machine_right m ≡ true → machine_right (after c m) ≡ true

@@ -35,7 +35,7 @@ use Rattle.life.proofs.Given.{refusing, steps_unless, refused_or, lacks, lacks_o
 -- ---- the last ticket
 
 -- it stays or rises over any calls
-pub last_never_falls : (cs : List Call) (m : Machine) → m.facts.last ≤ (after_all cs m).facts.last
+pub last_never_falls : (cs : List Call) (m : Machine) → m.table.facts.last ≤ (after_all cs m).table.facts.last
 last_never_falls [] m = omega arith
 last_never_falls (c ∷ cs) m = omega (arith, (grows c m).rises, last_never_falls cs (after c m))
 
@@ -58,28 +58,28 @@ new_all p others (r ∷ rows) h =
 
 module _ (c : Call) (m : Machine) where
   -- what holds of the next ticket once it is the last holds of each that a call gives
-  pub given-all : (p : ℕ → Bool) → ((t : ℕ) → new_ticket m.facts ≡ t → (after c m).facts.last ≡ t → p t ≡ true) → all p (given c m) ≡ true
+  pub given-all : (p : ℕ → Bool) → ((t : ℕ) → new_ticket m.table.facts ≡ t → (after c m).table.facts.last ≡ t → p t ≡ true) → all p (given c m) ≡ true
   given-all p h =
-      new_all p m.rows (after c m).rows
+      new_all p m.table.rows (after c m).table.rows
       (λ t e. (grows c m).only t
       (λ low high. true≢false (sym (h t (omega (arith, (grows c m).next)) (omega (arith, (grows c m).next))) ∙ e)))
 
   -- each is the next
-  pub given-next : all (eqb (new_ticket m.facts)) (given c m) ≡ true
-  given-next = given-all (eqb (new_ticket m.facts)) (λ t next last. eq-eqb (new_ticket m.facts) t next)
+  pub given-next : all (eqb (new_ticket m.table.facts)) (given c m) ≡ true
+  given-next = given-all (eqb (new_ticket m.table.facts)) (λ t next last. eq-eqb (new_ticket m.table.facts) t next)
 
   -- and then the last
-  pub given_is_last : all (eqb (after c m).facts.last) (given c m) ≡ true
-  given_is_last = given-all (eqb (after c m).facts.last) (λ t next last. eq-eqb (after c m).facts.last t last)
+  pub given_is_last : all (eqb (after c m).table.facts.last) (given c m) ≡ true
+  given_is_last = given-all (eqb (after c m).table.facts.last) (λ t next last. eq-eqb (after c m).table.facts.last t last)
 
 -- every ticket given is above the last
-given_above : (cs : List Call) (m : Machine) → all (ltb m.facts.last) (given_over cs m) ≡ true
+given_above : (cs : List Call) (m : Machine) → all (ltb m.table.facts.last) (given_over cs m) ≡ true
 given_above [] m = refl
 given_above (c ∷ cs) m =
-    all_append (ltb m.facts.last) (given c m) (given_over cs (after c m))
-    (given-all c m (ltb m.facts.last) (λ t next last. lt-ltb m.facts.last t (omega (arith, next))))
-    (all_mono (ltb (after c m).facts.last) (ltb m.facts.last)
-    (λ t h. lt-ltb m.facts.last t (omega (arith, ltb-true (after c m).facts.last t h, (grows c m).rises)))
+    all_append (ltb m.table.facts.last) (given c m) (given_over cs (after c m))
+    (given-all c m (ltb m.table.facts.last) (λ t next last. lt-ltb m.table.facts.last t (omega (arith, next))))
+    (all_mono (ltb (after c m).table.facts.last) (ltb m.table.facts.last)
+    (λ t h. lt-ltb m.table.facts.last t (omega (arith, ltb-true (after c m).table.facts.last t h, (grows c m).rises)))
     (given_over cs (after c m)) (given_above cs (after c m)))
 
 -- ---- one ticket at a time
@@ -116,14 +116,14 @@ one_given c m = go (machine_right m) refl
 
     go : (b : Bool) → machine_right m ≡ b → pairwise ltb (given c m) ≡ true
     go true right =
-        pairwise_mono (λ x y. not (eqb x y)) ltb (eqb (new_ticket m.facts))
-        (λ x y p q h. absurd (eqb-false x y (not-true (eqb x y) h) (sym (eqb-true (new_ticket m.facts) x p) ∙ eqb-true (new_ticket m.facts) y q)))
+        pairwise_mono (λ x y. not (eqb x y)) ltb (eqb (new_ticket m.table.facts))
+        (λ x y p q h. absurd (eqb-false x y (not-true (eqb x y) h) (sym (eqb-true (new_ticket m.table.facts) x p) ∙ eqb-true (new_ticket m.table.facts) y q)))
         (given c m) (given-next c m)
-        (new_distinct m.rows (after c m).rows (sound-says (right_says (after c m) (keeps c m right)).0).order)
+        (new_distinct m.table.rows (after c m).table.rows (sound-says (right_says (after c m) (keeps c m right)).0).order)
     go false broken =
         none (given c m)
         (given-all c m (λ t. false)
-        (λ t next last. absurd (omega (arith, next, last, ap (λ (m' : Machine). m'.facts.last) (stays c m broken)))))
+        (λ t next last. absurd (omega (arith, next, last, ap (λ (m' : Machine). m'.table.facts.last) (stays c m broken)))))
 
 -- tickets rise, so none is given twice
 pub tickets_rise : (cs : List Call) (m : Machine) → pairwise ltb (given_over cs m) ≡ true
@@ -162,14 +162,14 @@ module _ (f : Facts) (rows : List Row) (t : ℕ) where
   refused_nine h = rw (h, (retired_parts h).0)
 
 -- it stays retired
-pub stays_retired : (cs : List Call) (m : Machine) (t : ℕ) → ticket_retired m.facts m.rows t ≡ true
-    → ticket_retired (after_all cs m).facts (after_all cs m).rows t ≡ true
+pub stays_retired : (cs : List Call) (m : Machine) (t : ℕ) → ticket_retired m.table.facts m.table.rows t ≡ true
+    → ticket_retired (after_all cs m).table.facts (after_all cs m).table.rows t ≡ true
 stays_retired [] m t h = h
 stays_retired (c ∷ cs) m t h =
-    let g = retired_gone m.facts m.rows t h in
+    let g = retired_gone m.table.facts m.table.rows t h in
     let s = grows c m in
     stays_retired cs (after c m) t
-    (gone_retired (after c m).facts (after c m).rows t record {
+    (gone_retired (after c m).table.facts (after c m).table.rows t record {
       positive = g.positive;
       low = omega (arith, g.low, s.rises);
       no_row_lem = s.only t (λ above below. omega (arith, g.low)) g.no_row_lem;
@@ -178,23 +178,23 @@ stays_retired (c ∷ cs) m t h =
 -- ---- calls that name a retired ticket
 
 -- asked for a ticket that was retired, the machine answers 9 ever after
-pub retired-asked : (cs : List Call) (m : Machine) (t : ℕ) → machine_right m ≡ true → ticket_retired m.facts m.rows t ≡ true
+pub retired-asked : (cs : List Call) (m : Machine) (t : ℕ) → machine_right m ≡ true → ticket_retired m.table.facts m.table.rows t ≡ true
     → asked (after_all cs m) t ≡ record { address = 0; refusal = 9 }
 unfolding asked ask_refusal
 retired-asked cs m t right h =
-    rw (keeps_all cs m right, refused_nine (after_all cs m).facts (after_all cs m).rows t (stays_retired cs m t h))
+    rw (keeps_all cs m right, refused_nine (after_all cs m).table.facts (after_all cs m).table.rows t (stays_retired cs m t h))
 
 -- a refusal that stands behind others
 behind : (b : Bool) (k more : ℕ) → eqb k 0 ≡ false → eqb more 0 ≡ false → eqb (cond b k more) 0 ≡ false
 behind b k more h g = cond_by (λ (n : ℕ). eqb n 0 ≡ false) b {x = k} {y = more} (λ e. h) (λ e. g)
 
-module _ (m : Machine) (t : ℕ) (h : ticket_retired m.facts m.rows t ≡ true) where
-  move_refused : (static new : ℕ) → eqb (choice_refusal m.facts m.rows 3 static new t) 0 ≡ false
+module _ (m : Machine) (t : ℕ) (h : ticket_retired m.table.facts m.table.rows t ≡ true) where
+  move_refused : (static new : ℕ) → eqb (choice_refusal m.table.facts m.table.rows 3 static new t) 0 ≡ false
   unfolding choice_refusal move_refusal
-  move_refused static new = behind (ltb 127 new) 2 _ refl (behind (ticket_unknown m.facts t) 8 _ refl (rw h))
+  move_refused static new = behind (ltb 127 new) 2 _ refl (behind (ticket_unknown m.table.facts t) 8 _ refl (rw h))
 
-  ticket_refused : eqb (ticket_refusal m.facts m.rows t) 0 ≡ false
-  ticket_refused = rw (refused_nine m.facts m.rows t h)
+  ticket_refused : eqb (ticket_refusal m.table.facts m.table.rows t) 0 ≡ false
+  ticket_refused = rw (refused_nine m.table.facts m.table.rows t h)
 
   -- a call that names it is refused
   names-refused : (c : Call) → names t c ≡ true → eqb (refusing c m) 0 ≡ false
@@ -216,7 +216,7 @@ refuses : (c : Call) (m : Machine) (k : ℕ) → refusing c m ≡ k → eqb k 0 
 refuses c m k e z = steps_unless c m ∙ rw (e, z)
 
 -- whatever the moment and the arguments
-not_named : (c : Call) (m : Machine) (t : ℕ) → ticket_retired m.facts m.rows t ≡ true → names t c ≡ true
+not_named : (c : Call) (m : Machine) (t : ℕ) → ticket_retired m.table.facts m.table.rows t ≡ true → names t c ≡ true
     → ((step_of c m).refusal ≡ 0 → ⊥) × (((step_of c m).cells ≡ []) × (after c m ≡ m))
 not_named c m t h n =
     let e = names-refused m t h c n in
@@ -224,23 +224,23 @@ not_named c m t h n =
     (λ z. eqb-false (refusing c m) 0 e (sym (ap (λ (x : Step). x.refusal) s) ∙ z), (ap (λ (x : Step). x.cells) s, ap (λ (x : Step). x.machine) s))
 
 -- and ever after
-pub retired_not_named : (cs : List Call) (c : Call) (m : Machine) (t : ℕ) → ticket_retired m.facts m.rows t ≡ true → names t c ≡ true
+pub retired_not_named : (cs : List Call) (c : Call) (m : Machine) (t : ℕ) → ticket_retired m.table.facts m.table.rows t ≡ true → names t c ≡ true
     → ((step_of c (after_all cs m)).refusal ≡ 0 → ⊥) × (((step_of c (after_all cs m)).cells ≡ []) × (after c (after_all cs m) ≡ after_all cs m))
 retired_not_named cs c m t h = not_named c (after_all cs m) t (stays_retired cs m t h)
 
 -- with 9, where nothing comes before it
 pub retired_move : (m : Machine) (static new t room : ℕ) → 8 ≤ room → machine_right m ≡ true → m.moment ≡ Idle → new ≤ 127
-    → ticket_retired m.facts m.rows t ≡ true → begun m 3 static new t room ≡ refuse m 9
+    → ticket_retired m.table.facts m.table.rows t ≡ true → begun m 3 static new t room ≡ refuse m 9
 unfolding begin_refusal step_refusal choice_refusal move_refusal
 retired_move m static new t room enough right rests small h =
     refuses (begin 3 static new t room) m 9
-    (rw (le-ltb room 8 enough, right, ap is_idle rests, le-ltb 127 new small, h, (retired_parts m.facts m.rows t h).0))
+    (rw (le-ltb room 8 enough, right, ap is_idle rests, le-ltb 127 new small, h, (retired_parts m.table.facts m.table.rows t h).0))
     refl
 
-pub retired_retire : (m : Machine) (t : ℕ) → machine_right m ≡ true → m.moment ≡ Idle → ticket_retired m.facts m.rows t ≡ true
+pub retired_retire : (m : Machine) (t : ℕ) → machine_right m ≡ true → m.moment ≡ Idle → ticket_retired m.table.facts m.table.rows t ≡ true
     → retired m t ≡ refuse m 9
 unfolding rest_refusal retire_refusal
-retired_retire m t right rests h = refuses (retire t) m 9 (rw (right, ap is_idle rests) (refused_nine m.facts m.rows t h)) refl
+retired_retire m t right rests h = refuses (retire t) m 9 (rw (right, ap is_idle rests) (refused_nine m.table.facts m.table.rows t h)) refl
 
 -- ---- a board that comes back
 
@@ -294,15 +294,15 @@ unfolding answered step_refusal
 offer_accepted m room right offers enough = rw (le-ltb room 8 enough, right) (ap (λ (x : Moment). answer_at x m true) offers)
 
 -- a board with an identity that a row has, once it accepts what it was offered
-pub comes_back : (m : Machine) (room : ℕ) → machine_right m ≡ true → m.moment ≡ Offered → holds_identity m.identity m.rows ≡ true → 8 ≤ room
-    → Returned (row_at m.rows (place_of_identity m.identity m.rows)) (new_ticket m.facts) m.identity
-    (after (answer true room) m).facts (after (answer true room) m).rows
+pub comes_back : (m : Machine) (room : ℕ) → machine_right m ≡ true → m.moment ≡ Offered → holds_identity m.identity m.table.rows ≡ true → 8 ≤ room
+    → Returned (row_at m.table.rows (place_of_identity m.identity m.table.rows)) (new_ticket m.table.facts) m.identity
+    (after (answer true room) m).table.facts (after (answer true room) m).table.rows
 unfolding accepted round_rule accepted_rows
 comes_back m room right offers known enough =
-    let rows' = accepted_rows m.rows m.identity m.offered (new_ticket m.facts) in
-    let back = Returned (row_at m.rows (place_of_identity m.identity m.rows)) (new_ticket m.facts) m.identity in
-    subst (λ (s : Step). back s.machine.facts s.machine.rows) (sym (offer_accepted m room right offers enough))
-    (onward_has back (can_assign (ticketed m.facts) rows') (ticketed m.facts) rows' 0
-    (cond_by (back (ticketed m.facts)) (holds_identity m.identity m.rows)
-    (λ e. renewed_returned m.facts m.rows m.identity (right_says m right).0 known)
+    let rows' = accepted_rows m.table.rows m.identity m.offered (new_ticket m.table.facts) in
+    let back = Returned (row_at m.table.rows (place_of_identity m.identity m.table.rows)) (new_ticket m.table.facts) m.identity in
+    subst (λ (s : Step). back s.machine.table.facts s.machine.table.rows) (sym (offer_accepted m room right offers enough))
+    (onward_has back (can_assign (ticketed m.table.facts) rows') (ticketed m.table.facts) rows' 0
+    (cond_by (back (ticketed m.table.facts)) (holds_identity m.identity m.table.rows)
+    (λ e. renewed_returned m.table.facts m.table.rows m.identity (right_says m right).0 known)
     (λ e. absurd (true≢false (sym known ∙ e)))))

@@ -72,7 +72,7 @@ new_in others (r ∷ rows) = cond (in_use r && not (holds_ticket r.ticket others
 
 -- the tickets that a call gives: those of the rows after it that no row had before; and those that a list of calls gives, in order
 abbrev pub given : Call → Machine → List ℕ
-given c m = new_in m.rows (after c m).rows
+given c m = new_in m.table.rows (after c m).table.rows
 
 abbrev pub given_over : List Call → Machine → List ℕ
 given_over [] m = []

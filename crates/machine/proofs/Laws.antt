@@ -38,11 +38,11 @@ unfolding moment_right
 moment_at m w b at e = e ∙ ap (λ (v : Moment). right_at v m) (sym at)
 
 -- a sound table: the moment's rule decides; else none
-pub right_sound : (m : Machine) {b : Bool} → sound m.facts m.rows ≡ true → b ≡ moment_right m → b ≡ machine_right m
+pub right_sound : (m : Machine) {b : Bool} → sound m.table.facts m.table.rows ≡ true → b ≡ moment_right m → b ≡ machine_right m
 unfolding machine_right
 right_sound m s e = rw s e
 
-pub right_unsound : (m : Machine) → sound m.facts m.rows ≡ false → false ≡ machine_right m
+pub right_unsound : (m : Machine) → sound m.table.facts m.table.rows ≡ false → false ≡ machine_right m
 unfolding machine_right
 right_unsound m s = rw s
 
@@ -120,7 +120,7 @@ pub ask_refused : (m : Machine) (ticket : ℕ) {r : ℕ} → r ≡ ask_refusal m
 unfolding asked
 ask_refused m ticket {r} e n = rw (← e, ne_eqb r 0 n)
 
-pub ask_told : (m : Machine) (ticket : ℕ) {r a : ℕ} → r ≡ ask_refusal m ticket → r ≡ 0 → a ≡ address_of m.rows ticket → record { address = a; refusal = 0 } ≡ asked m ticket
+pub ask_told : (m : Machine) (ticket : ℕ) {r a : ℕ} → r ≡ ask_refusal m ticket → r ≡ 0 → a ≡ address_of m.table.rows ticket → record { address = a; refusal = 0 } ≡ asked m ticket
 unfolding asked
 ask_told m ticket e z p = rw (← e, z, p)
 
@@ -172,8 +172,8 @@ eight_heard m bytes room e z = let t = simp not-refused at (sym e ∙ z) in eqb-
 
 -- eight bytes that were listened to
 pub listened-laid : (m : Machine) (bytes : List ℕ) {identity address : ℕ} {machine : Machine} {out : List ℕ} → length bytes ≡ 8
-    → identity ≡ identity_of bytes → address ≡ address_for m.facts m.rows identity
-    → machine ≡ offering m.facts m.rows identity address m.refusals → out ≡ map identity_cell bytes
+    → identity ≡ identity_of bytes → address ≡ address_for m.table.facts m.table.rows identity
+    → machine ≡ offering m.table.facts m.table.rows identity address m.refusals → out ≡ map identity_cell bytes
     → record { machine = machine; out = out; count = 8; refusal = 0 } ≡ laid (listened m bytes)
 unfolding listened
 listened-laid m bytes long i a e o =
@@ -203,18 +203,18 @@ ticket_left f h n =
     omega (arith, leb-true f.last 4294967295 t.1, eqb-false f.last 4294967295 n)
 
 -- where an offer stands, and where a set does
-pub offered_ticket : (m : Machine) → machine_right m ≡ true → m.moment ≡ Offered → m.facts.last < 4294967295
+pub offered_ticket : (m : Machine) → machine_right m ≡ true → m.moment ≡ Offered → m.table.facts.last < 4294967295
 unfolding machine_right moment_right sound can_assign
 offered_ticket m right at =
     let t = simp and-eq-true_iff at right in
     let here : right_at Offered m ≡ true = rw at at t.1 in
     let u = simp and-eq-true_iff at here in
-    ticket_left m.facts t.0.0.0.0 (not-true (no_ticket_left m.facts) u.0.1.1)
+    ticket_left m.table.facts t.0.0.0.0 (not-true (no_ticket_left m.table.facts) u.0.1.1)
 
-pub direct_ticket : (m : Machine) → machine_right m ≡ true → m.moment ≡ Direct → m.choice ≡ 2 → m.facts.last < 4294967295
+pub direct_ticket : (m : Machine) → machine_right m ≡ true → m.moment ≡ Direct → m.choice ≡ 2 → m.table.facts.last < 4294967295
 unfolding machine_right moment_right sound asked_right can_set
 direct_ticket m right at set =
     let t = simp and-eq-true_iff at right in
     let here : right_at Direct m ≡ true = rw at at t.1 in
     let u = simp and-eq-true_iff at (rw set at here) in
-    ticket_left m.facts t.0.0.0.0 (not-true (no_ticket_left m.facts) u.1.0.0.1)
+    ticket_left m.table.facts t.0.0.0.0 (not-true (no_ticket_left m.table.facts) u.1.0.0.1)

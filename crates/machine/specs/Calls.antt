@@ -31,7 +31,7 @@ identified m bytes room = unless (identity_refusal m (length bytes) room) m (lis
 
 -- 514, idle, rows unchanged
 unfoldable pub given_up : Machine → ℕ → Step
-given_up m room = unless (give_up_refusal m room) m (did (idle m.facts m.rows) (stop_cell ∷ []))
+given_up m room = unless (give_up_refusal m room) m (did (idle m.table.facts m.table.rows) (stop_cell ∷ []))
 
 unfoldable pub joined : Machine → ℕ → ℕ → Step
 joined m choice room = unless (join_refusal m choice room) m (joining m choice)
@@ -44,11 +44,11 @@ started f = record { machine = idle (checked f).facts (replicate 32 no_row); cel
 
 -- retiring a ticket removes its row
 unfoldable pub retired : Machine → ℕ → Step
-retired m ticket = unless (retire_refusal m ticket) m (did (idle m.facts (without (place_of_ticket ticket m.rows) m.rows)) [])
+retired m ticket = unless (retire_refusal m ticket) m (did (idle m.table.facts (without (place_of_ticket ticket m.table.rows) m.table.rows)) [])
 
 -- asking for a ticket gives its present address, or 0 with the refusal
 unfoldable pub asked : Machine → ℕ → TicketAnswer
-asked m ticket = record { address = cond (eqb (ask_refusal m ticket) 0) (address_of m.rows ticket) 0; refusal = ask_refusal m ticket }
+asked m ticket = record { address = cond (eqb (ask_refusal m ticket) 0) (address_of m.table.rows ticket) 0; refusal = ask_refusal m ticket }
 
 -- ---- what the caller is handed, and what stands in the lent cells
 

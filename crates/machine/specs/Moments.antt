@@ -13,30 +13,30 @@ use Rattle.machine.specs.declared.Moment.TheVariants.{Idle, Opened, Round, Liste
 
 -- idle remembers nothing
 abbrev pub idle : Facts → List Row → Machine
-idle f rows = record { facts = f; rows = rows; moment = Idle; choice = 0; asked = 0; wanted = 0; identity = 0; offered = 0; refusals = 0 }
+idle f rows = record { table = record { facts = f; rows = rows }; moment = Idle; choice = 0; asked = 0; wanted = 0; identity = 0; offered = 0; refusals = 0 }
 
 -- opened and direct: the choice, the address asked (the static one for a set, the present one for a move) and the new address wanted
 abbrev pub opened : Facts → List Row → ℕ → ℕ → ℕ → Machine
 opened f rows choice asked wanted =
-    record { facts = f; rows = rows; moment = Opened; choice = choice; asked = asked; wanted = wanted; identity = 0; offered = 0; refusals = 0 }
+    record { table = record { facts = f; rows = rows }; moment = Opened; choice = choice; asked = asked; wanted = wanted; identity = 0; offered = 0; refusals = 0 }
 
 abbrev pub direct : Facts → List Row → ℕ → ℕ → ℕ → Machine
 direct f rows choice asked wanted =
-    record { facts = f; rows = rows; moment = Direct; choice = choice; asked = asked; wanted = wanted; identity = 0; offered = 0; refusals = 0 }
+    record { table = record { facts = f; rows = rows }; moment = Direct; choice = choice; asked = asked; wanted = wanted; identity = 0; offered = 0; refusals = 0 }
 
 -- round and listening: the refusals in succession
 abbrev pub round : Facts → List Row → ℕ → Machine
 round f rows refusals =
-    record { facts = f; rows = rows; moment = Round; choice = 0; asked = 0; wanted = 0; identity = 0; offered = 0; refusals = refusals }
+    record { table = record { facts = f; rows = rows }; moment = Round; choice = 0; asked = 0; wanted = 0; identity = 0; offered = 0; refusals = refusals }
 
 abbrev pub listening : Facts → List Row → ℕ → Machine
 listening f rows refusals =
-    record { facts = f; rows = rows; moment = Listening; choice = 0; asked = 0; wanted = 0; identity = 0; offered = 0; refusals = refusals }
+    record { table = record { facts = f; rows = rows }; moment = Listening; choice = 0; asked = 0; wanted = 0; identity = 0; offered = 0; refusals = refusals }
 
 -- offered: the identity, the address that it is offered, and the refusals in succession
 abbrev pub offering : Facts → List Row → ℕ → ℕ → ℕ → Machine
 offering f rows identity address refusals =
-    record { facts = f; rows = rows; moment = Offered; choice = 0; asked = 0; wanted = 0; identity = identity; offered = address; refusals = refusals }
+    record { table = record { facts = f; rows = rows }; moment = Offered; choice = 0; asked = 0; wanted = 0; identity = identity; offered = address; refusals = refusals }
 
 -- ---- what a machine at a moment must be like
 
@@ -54,7 +54,7 @@ no_refusals m = eqb m.refusals 0
 
 -- in an assign's rounds: nothing asked, at most one refusal, and the table can give one row more
 abbrev pub in_rounds : Machine → Bool
-in_rounds m = nothing_asked m && ltb m.refusals 2 && can_assign m.facts m.rows
+in_rounds m = nothing_asked m && ltb m.refusals 2 && can_assign m.table.facts m.table.rows
 
 -- a choice that comes to direct: a set or a move
 abbrev pub goes_direct : ℕ → Bool
@@ -62,14 +62,14 @@ goes_direct choice = eqb choice 2 || eqb choice 3
 
 -- the choice and the addresses asked are what these rows allow, and there is nothing else
 abbrev pub asks_right : Machine → Bool
-asks_right m = asked_right m.facts m.rows m.choice m.asked m.wanted && nothing_offered m && no_refusals m
+asks_right m = asked_right m.table.facts m.table.rows m.choice m.asked m.wanted && nothing_offered m && no_refusals m
 
 abbrev pub right_at : Moment → Machine → Bool
 right_at Idle m = nothing_asked m && nothing_offered m && no_refusals m
 right_at Opened m = asks_right m
 right_at Round m = in_rounds m && nothing_offered m
 right_at Listening m = in_rounds m && nothing_offered m
-right_at Offered m = in_rounds m && eqb m.offered (address_for m.facts m.rows m.identity)
+right_at Offered m = in_rounds m && eqb m.offered (address_for m.table.facts m.table.rows m.identity)
 right_at Direct m = goes_direct m.choice && asks_right m
 
 unfoldable pub moment_right : Machine → Bool
@@ -77,7 +77,7 @@ moment_right m = right_at m.moment m
 
 -- a machine keeps the rules for facts, rows and tickets, and remembers what they allow; refusal 28 is given exactly when it does not
 unfoldable pub machine_right : Machine → Bool
-machine_right m = sound m.facts m.rows && moment_right m
+machine_right m = sound m.table.facts m.table.rows && moment_right m
 
 -- ---- moments told apart
 

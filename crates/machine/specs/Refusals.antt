@@ -28,10 +28,10 @@ rest_refusal m more =
 -- ---- each call
 
 unfoldable pub begin_refusal : Machine → ℕ → ℕ → ℕ → ℕ → ℕ → ℕ
-begin_refusal m choice static new ticket room = step_refusal room m (idle_refusal m (choice_refusal m.facts m.rows choice static new ticket))
+begin_refusal m choice static new ticket room = step_refusal room m (idle_refusal m (choice_refusal m.table.facts m.table.rows choice static new ticket))
 
 unfoldable pub join_refusal : Machine → ℕ → ℕ → ℕ
-join_refusal m choice room = step_refusal room m (idle_refusal m (joining_refusal m.facts m.rows choice))
+join_refusal m choice room = step_refusal room m (idle_refusal m (joining_refusal m.table.facts m.table.rows choice))
 
 -- an identity is for listening, and has eight bytes
 unfoldable pub identity_refusal : Machine → ℕ → ℕ → ℕ
@@ -47,10 +47,10 @@ give_up_refusal m room = step_refusal room m (cond (is_idle m.moment) 10 0)
 
 -- retiring is for idle; it is lent no cells
 unfoldable pub retire_refusal : Machine → ℕ → ℕ
-retire_refusal m ticket = rest_refusal m (ticket_refusal m.facts m.rows ticket)
+retire_refusal m ticket = rest_refusal m (ticket_refusal m.table.facts m.table.rows ticket)
 
 -- asking is for any moment
 unfoldable pub ask_refusal : Machine → ℕ → ℕ
 ask_refusal m ticket =
     cond (not (machine_right m)) 28
-    (ticket_refusal m.facts m.rows ticket)
+    (ticket_refusal m.table.facts m.table.rows ticket)

@@ -44,7 +44,7 @@ address_wanted choice new = cond (goes_direct choice) new 0
 -- START; opened
 unfoldable pub beginning : Machine → ℕ → ℕ → ℕ → ℕ → Step
 beginning m choice static new ticket =
-    did (opened m.facts m.rows choice (address_asked m.rows choice static ticket) (address_wanted choice new)) (start_cell ∷ [])
+    did (opened m.table.facts m.table.rows choice (address_asked m.table.rows choice static ticket) (address_wanted choice new)) (start_cell ∷ [])
 
 -- the choice of Begin that a joining is opened for: silence, 4, for Join's choice 1, assign, 0, for 2
 abbrev pub joins_for : ℕ → ℕ
@@ -53,8 +53,8 @@ joins_for choice = cond (eqb choice 1) 4 0
 -- choice 0: 512, 9, 514; choice 1: 512, 8, 513, then opened for silence; choice 2 the same for assign
 unfoldable pub joining : Machine → ℕ → Step
 joining m choice =
-    cond (eqb choice 0) (did (idle m.facts m.rows) (start_cell ∷ hot_join false ∷ stop_cell ∷ []))
-    (did (opened m.facts m.rows (joins_for choice) 0 0) (start_cell ∷ hot_join true ∷ repeated_start_cell ∷ []))
+    cond (eqb choice 0) (did (idle m.table.facts m.table.rows) (start_cell ∷ hot_join false ∷ stop_cell ∷ []))
+    (did (opened m.table.facts m.table.rows (joins_for choice) 0 0) (start_cell ∷ hot_join true ∷ repeated_start_cell ∷ []))
 
 -- ---- the round rule
 
@@ -78,17 +78,17 @@ round_rule f rows cells = onward (can_assign f rows) f rows 0 cells
 -- a set's or a move's command, and on to direct; a command about joining, and back to idle
 abbrev pub on_to_direct : Machine → ℕ → Step
 on_to_direct m command =
-    did (direct m.facts m.rows m.choice m.asked m.wanted) (broadcast_write true ∷ command ∷ repeated_start_cell ∷ [])
+    did (direct m.table.facts m.table.rows m.choice m.asked m.wanted) (broadcast_write true ∷ command ∷ repeated_start_cell ∷ [])
 
 abbrev pub about_joining : Machine → ℕ → Step
-about_joining m command = did (idle m.facts m.rows) (broadcast_write true ∷ command ∷ joining_cell ∷ stop_cell ∷ [])
+about_joining m command = did (idle m.table.facts m.table.rows) (broadcast_write true ∷ command ∷ joining_cell ∷ stop_cell ∷ [])
 
 -- answer: 504, then by command: 0 assign 14 and the round rule; 1 reset all 13, 514, all rows go; 2 set from static 271, 513, direct; 3 move 273, 513,
 -- direct; 4 silence 2, 16, 514; 5 allow 1, 16, 514
 unfoldable pub commanded : Machine → Step
 commanded m =
-    cond (eqb m.choice 0) (round_rule m.facts m.rows (broadcast_write true ∷ assign_cell ∷ []))
-    (cond (eqb m.choice 1) (did (idle m.facts (replicate 32 no_row)) (broadcast_write true ∷ reset_all_cell ∷ stop_cell ∷ []))
+    cond (eqb m.choice 0) (round_rule m.table.facts m.table.rows (broadcast_write true ∷ assign_cell ∷ []))
+    (cond (eqb m.choice 1) (did (idle m.table.facts (replicate 32 no_row)) (broadcast_write true ∷ reset_all_cell ∷ stop_cell ∷ []))
     (cond (eqb m.choice 2) (on_to_direct m set_from_static_cell)
     (cond (eqb m.choice 3) (on_to_direct m move_cell)
     (cond (eqb m.choice 4) (about_joining m silence_cell)
@@ -96,7 +96,7 @@ commanded m =
 
 -- no answer: 505, 514; idle, nothing changed
 unfoldable pub opened_answer : Machine → Bool → Step
-opened_answer m heard = cond heard (commanded m) (did (idle m.facts m.rows) (broadcast_write false ∷ stop_cell ∷ []))
+opened_answer m heard = cond heard (commanded m) (did (idle m.table.facts m.table.rows) (broadcast_write false ∷ stop_cell ∷ []))
 
 -- ---- round
 
@@ -104,8 +104,8 @@ opened_answer m heard = cond heard (commanded m) (did (idle m.facts m.rows) (bro
 unfoldable pub round_answer : Machine → Bool → Step
 round_answer m heard =
     cond heard
-    (did (listening m.facts m.rows m.refusals) (broadcast_read true ∷ []))
-    (did (idle m.facts m.rows) (broadcast_read false ∷ stop_cell ∷ []))
+    (did (listening m.table.facts m.table.rows m.refusals) (broadcast_read true ∷ []))
+    (did (idle m.table.facts m.table.rows) (broadcast_read false ∷ stop_cell ∷ []))
 
 -- ---- listening
 
@@ -121,7 +121,7 @@ identity_of bytes = digits 0 bytes
 -- eight identity bytes: their cells; offered, with the address for the identity
 unfoldable pub listened : Machine → List ℕ → Step
 listened m bytes =
-    did (offering m.facts m.rows (identity_of bytes) (address_for m.facts m.rows (identity_of bytes)) m.refusals) (map identity_cell bytes)
+    did (offering m.table.facts m.table.rows (identity_of bytes) (address_for m.table.facts m.table.rows (identity_of bytes)) m.refusals) (map identity_cell bytes)
 
 -- ---- offered
 
@@ -139,12 +139,12 @@ accepted_rows rows identity address ticket =
 -- answer: the address cell, the row with its new ticket, then the round rule
 unfoldable pub accepted : Machine → Step
 accepted m =
-    round_rule (ticketed m.facts) (accepted_rows m.rows m.identity m.offered (new_ticket m.facts))
+    round_rule (ticketed m.table.facts) (accepted_rows m.table.rows m.identity m.offered (new_ticket m.table.facts))
     (answer_cell (offered_byte m.offered) true ∷ [])
 
 -- no answer: the address cell; 513 and round, which remembers the first refusal, but after two in succession 514 and idle
 unfoldable pub declined : Machine → Step
-declined m = onward (eqb m.refusals 0) m.facts m.rows 1 (answer_cell (offered_byte m.offered) false ∷ [])
+declined m = onward (eqb m.refusals 0) m.table.facts m.table.rows 1 (answer_cell (offered_byte m.offered) false ∷ [])
 
 abbrev pub offered_answer : Machine → Bool → Step
 offered_answer m heard = cond heard (accepted m) (declined m)
@@ -159,15 +159,15 @@ set_row address ticket static = record { address = address; ticket = ticket; unk
 unfoldable pub directed : Machine → Machine
 directed m =
     cond (eqb m.choice 2)
-    (idle (ticketed m.facts) (with_row (set_row m.wanted (new_ticket m.facts) m.asked) m.rows))
-    (idle m.facts (moved (place_of_address m.asked m.rows) m.wanted m.rows))
+    (idle (ticketed m.table.facts) (with_row (set_row m.wanted (new_ticket m.table.facts) m.asked) m.table.rows))
+    (idle m.table.facts (moved (place_of_address m.asked m.table.rows) m.wanted m.table.rows))
 
 -- answer: the cell of the header, the cell of the new address as data, 514; no answer: the header's cell, 514, nothing changed
 unfoldable pub direct_answer : Machine → Bool → Step
 direct_answer m heard =
     cond heard
     (did (directed m) (answer_cell (write_byte m.asked) true ∷ data_cell (write_byte m.wanted) ∷ stop_cell ∷ []))
-    (did (idle m.facts m.rows) (answer_cell (write_byte m.asked) false ∷ stop_cell ∷ []))
+    (did (idle m.table.facts m.table.rows) (answer_cell (write_byte m.asked) false ∷ stop_cell ∷ []))
 
 -- ---- an answer, or none, at each moment; at idle and at listening it is not of the moment
 

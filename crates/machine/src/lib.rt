@@ -22,8 +22,7 @@ mod refusals;
 mod steps;
 
 use did::Did;
-use rows::Row;
-use slots::Facts;
+use table::Table;
 
 // Refusals: the call is not of this moment; fewer than 8 cells lent; a machine that breaks the rules. The others are those of `slots` (1, 2),
 // `table` (8, 9) and `begins` (3 to 7, 12).
@@ -44,12 +43,11 @@ pub enum Moment {
     Direct, // choice, asked, wanted
 }
 
-// The bus facts, the rows in order of address, the moment, and what it remembers: the choice that was begun, the address that it asks (static for a
+// The table, the moment, and what it remembers: the choice that was begun, the address that it asks (static for a
 // set, present for a move) and the new address wanted; the identity heard and the address that it is offered; the refusals in succession.
 #[derive(Clone, Copy)]
 pub struct Machine {
-    pub facts: Facts,
-    pub rows: [Row; 32],
+    pub table: Table,
     pub moment: Moment,
     pub choice: u8,
     pub asked: u8,
@@ -164,8 +162,8 @@ fn given_up(m: Machine, room: usize) -> Did
     if refusal != 0 {
         return did::refused(m, refusal);
     }
-    let f = m.facts;
-    let rows = m.rows;
+    let f = m.table.facts;
+    let rows = m.table.rows;
     did::one(moments::idle(f, rows), parity::STOP)
 }
 
@@ -245,8 +243,8 @@ impl Machine {
                 refusal,
             };
         }
-        let f = self.facts;
-        let rows = self.rows;
+        let f = self.table.facts;
+        let rows = self.table.rows;
         let place = rows::place_of_ticket(rows, ticket);
         let machine = moments::idle(f, changes::without(rows, place));
         Stepped {
@@ -267,7 +265,7 @@ impl Machine {
                 refusal,
             };
         }
-        let rows = self.rows;
+        let rows = self.table.rows;
         TicketAnswer {
             address: steps::address_of(rows, ticket),
             refusal: 0,

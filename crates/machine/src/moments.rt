@@ -9,6 +9,7 @@ use crate::{Machine, Moment};
 use begins::{MOVE, SET_FROM_STATIC};
 use rows::{NO_ROW, Row};
 use slots::Facts;
+use table::Table;
 
 // A table without rows.
 pub fn no_rows() -> [Row; 32]
@@ -23,8 +24,7 @@ pub fn idle(facts: Facts, rows: [Row; 32]) -> Machine
     ensures { result ≡ idle facts rows }
 {
     Machine {
-        facts,
-        rows,
+        table: Table { facts, rows },
         moment: Moment::Idle,
         choice: 0,
         asked: 0,
@@ -39,8 +39,7 @@ pub fn opened(facts: Facts, rows: [Row; 32], choice: u8, asked: u8, wanted: u8) 
     ensures { result ≡ opened facts rows choice asked wanted }
 {
     Machine {
-        facts,
-        rows,
+        table: Table { facts, rows },
         moment: Moment::Opened,
         choice,
         asked,
@@ -55,8 +54,7 @@ pub fn direct(facts: Facts, rows: [Row; 32], choice: u8, asked: u8, wanted: u8) 
     ensures { result ≡ direct facts rows choice asked wanted }
 {
     Machine {
-        facts,
-        rows,
+        table: Table { facts, rows },
         moment: Moment::Direct,
         choice,
         asked,
@@ -71,8 +69,7 @@ pub fn round(facts: Facts, rows: [Row; 32], refusals: u8) -> Machine
     ensures { result ≡ round facts rows refusals }
 {
     Machine {
-        facts,
-        rows,
+        table: Table { facts, rows },
         moment: Moment::Round,
         choice: 0,
         asked: 0,
@@ -87,8 +84,7 @@ pub fn listening(facts: Facts, rows: [Row; 32], refusals: u8) -> Machine
     ensures { result ≡ listening facts rows refusals }
 {
     Machine {
-        facts,
-        rows,
+        table: Table { facts, rows },
         moment: Moment::Listening,
         choice: 0,
         asked: 0,
@@ -103,8 +99,7 @@ pub fn offering(facts: Facts, rows: [Row; 32], identity: u64, offered: u8, refus
     ensures { result ≡ offering facts rows identity offered refusals }
 {
     Machine {
-        facts,
-        rows,
+        table: Table { facts, rows },
         moment: Moment::Offered,
         choice: 0,
         asked: 0,
@@ -133,8 +128,8 @@ fn nothing_offered(m: Machine) -> bool
 fn in_rounds(m: Machine) -> bool
     ensures { result ≡ in_rounds m }
 {
-    let f = m.facts;
-    let rows = m.rows;
+    let f = m.table.facts;
+    let rows = m.table.rows;
     nothing_asked(m) & (m.refusals < 2) & free::can_assign(f, rows)
 }
 
@@ -149,8 +144,8 @@ pub fn goes_direct(choice: u8) -> bool
 fn asks_right(m: Machine) -> bool
     ensures { result ≡ asks_right m }
 {
-    let f = m.facts;
-    let rows = m.rows;
+    let f = m.table.facts;
+    let rows = m.table.rows;
     begins::asked_right(f, rows, m.choice, m.asked, m.wanted)
         & nothing_offered(m)
         & (m.refusals == 0)
@@ -160,8 +155,8 @@ fn asks_right(m: Machine) -> bool
 fn offers_right(m: Machine) -> bool
     ensures { result ≡ right_at Offered m }
 {
-    let f = m.facts;
-    let rows = m.rows;
+    let f = m.table.facts;
+    let rows = m.table.rows;
     in_rounds(m) & (m.offered == free::address_for(f, rows, m.identity))
 }
 
@@ -184,8 +179,8 @@ fn moment_right(m: Machine) -> bool
 pub fn machine_right(m: Machine) -> bool
     ensures { result ≡ machine_right m }
 {
-    let f = m.facts;
-    let rows = m.rows;
+    let f = m.table.facts;
+    let rows = m.table.rows;
     if table::is_sound(f, rows) {
         moment_right(m)
     } else {

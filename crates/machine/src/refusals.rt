@@ -34,8 +34,8 @@ pub fn begin_refusal(m: Machine, choice: u8, from: u8, new: u8, ticket: u32, roo
     if !moments::is_idle(m) {
         return WRONG_MOMENT;
     }
-    let f = m.facts;
-    let rows = m.rows;
+    let f = m.table.facts;
+    let rows = m.table.rows;
     begins::choice_refusal(f, rows, choice, from, new, ticket)
 }
 
@@ -49,8 +49,8 @@ pub fn join_refusal(m: Machine, choice: u8, room: usize) -> u8
     if !moments::is_idle(m) {
         return WRONG_MOMENT;
     }
-    let f = m.facts;
-    let rows = m.rows;
+    let f = m.table.facts;
+    let rows = m.table.rows;
     begins::joining_refusal(f, rows, choice)
 }
 
@@ -103,8 +103,8 @@ pub fn retire_refusal(m: Machine, ticket: u32) -> u8
     if refusal != 0 {
         return refusal;
     }
-    let f = m.facts;
-    let rows = m.rows;
+    let f = m.table.facts;
+    let rows = m.table.rows;
     table::ticket_refusal(f, rows, ticket)
 }
 
@@ -114,7 +114,7 @@ pub fn ask_refusal(m: Machine, ticket: u32) -> u8
     if !moments::machine_right(m) {
         return BROKEN_MACHINE;
     }
-    let f = m.facts;
-    let rows = m.rows;
+    let f = m.table.facts;
+    let rows = m.table.rows;
     table::ticket_refusal(f, rows, ticket)
 }

@@ -47,8 +47,8 @@ fn address_wanted(choice: u8, new: u8) -> u8
 pub fn begin(m: Machine, choice: u8, from: u8, new: u8, ticket: u32) -> Did
     ensures { result ≡ laid (beginning m choice from new ticket) }
 {
-    let f = m.facts;
-    let rows = m.rows;
+    let f = m.table.facts;
+    let rows = m.table.rows;
     let asked = address_asked(rows, choice, from, ticket);
     let wanted = address_wanted(choice, new);
     did::one(
@@ -64,8 +64,8 @@ pub fn begin(m: Machine, choice: u8, from: u8, new: u8, ticket: u32) -> Did
 pub fn join(m: Machine, choice: u8) -> Did
     ensures { result ≡ laid (joining m choice) }
 {
-    let f = m.facts;
-    let rows = m.rows;
+    let f = m.table.facts;
+    let rows = m.table.rows;
     if choice == JOIN_REFUSED {
         let next = moments::idle(f, rows);
         did::three(next, parity::START, parity::HOT_JOIN_REFUSED, parity::STOP)
@@ -122,8 +122,8 @@ fn onward_cell(on: bool) -> u16
 fn on_to_direct(m: Machine, command: u16) -> Did
     ensures { result ≡ laid (on_to_direct m command) }
 {
-    let f = m.facts;
-    let rows = m.rows;
+    let f = m.table.facts;
+    let rows = m.table.rows;
     let next = moments::direct(f, rows, m.choice, m.asked, m.wanted);
     did::three(
         next,
@@ -137,8 +137,8 @@ fn on_to_direct(m: Machine, command: u16) -> Did
 fn about_joining(m: Machine, command: u16) -> Did
     ensures { result ≡ laid (about_joining m command) }
 {
-    let f = m.facts;
-    let rows = m.rows;
+    let f = m.table.facts;
+    let rows = m.table.rows;
     let next = moments::idle(f, rows);
     did::four(
         next,
@@ -159,8 +159,8 @@ fn about_joining(m: Machine, command: u16) -> Did
 fn commanded(m: Machine) -> Did
     ensures { result ≡ laid (commanded m) }
 {
-    let f = m.facts;
-    let rows = m.rows;
+    let f = m.table.facts;
+    let rows = m.table.rows;
     let choice = m.choice;
     let answered = parity::BROADCAST_WRITE_ANSWERED;
     match choice {
@@ -187,8 +187,8 @@ pub fn opened_answer(m: Machine, heard: bool) -> Did
     if heard {
         commanded(m)
     } else {
-        let f = m.facts;
-        let rows = m.rows;
+        let f = m.table.facts;
+        let rows = m.table.rows;
         did::two(
             moments::idle(f, rows),
             parity::BROADCAST_WRITE_SILENT,
@@ -203,8 +203,8 @@ pub fn opened_answer(m: Machine, heard: bool) -> Did
 pub fn round_answer(m: Machine, heard: bool) -> Did
     ensures { result ≡ laid (round_answer m heard) }
 {
-    let f = m.facts;
-    let rows = m.rows;
+    let f = m.table.facts;
+    let rows = m.table.rows;
     if heard {
         let next = moments::listening(f, rows, m.refusals);
         did::one(next, parity::BROADCAST_READ_ANSWERED)
@@ -221,8 +221,8 @@ pub fn listened(m: Machine, bytes: &[u8]) -> Did
     requires { length bytes.now ≡ 8 }
     ensures { result ≡ laid (listened m bytes.now) }
 {
-    let f = m.facts;
-    let rows = m.rows;
+    let f = m.table.facts;
+    let rows = m.table.rows;
     let identity = identities::number(bytes);
     let out = identities::cells(bytes);
     let address = free::address_for(f, rows, identity);
@@ -268,11 +268,11 @@ fn ticketed(f: Facts) -> Facts
 
 // The offer is accepted: the address cell, the row, then the round rule.
 fn accepted(m: Machine) -> Did
-    requires { m.facts.last < 4294967295 }
+    requires { m.table.facts.last < 4294967295 }
     ensures { result ≡ laid (accepted m) }
 {
-    let f = ticketed(m.facts);
-    let old = m.rows;
+    let f = ticketed(m.table.facts);
+    let old = m.table.rows;
     let rows = accepted_rows(old, m.identity, m.offered, f.last);
     let on = free::can_assign(f, rows);
     let cell = parity::answer_cell(parity::offered_byte(m.offered), true);
@@ -283,15 +283,15 @@ fn accepted(m: Machine) -> Did
 fn declined(m: Machine) -> Did
     ensures { result ≡ laid (declined m) }
 {
-    let f = m.facts;
-    let rows = m.rows;
+    let f = m.table.facts;
+    let rows = m.table.rows;
     let on = m.refusals == 0;
     let cell = parity::answer_cell(parity::offered_byte(m.offered), false);
     did::two(onward_machine(on, f, rows, 1), cell, onward_cell(on))
 }
 
 pub fn offered_answer(m: Machine, heard: bool) -> Did
-    requires { m.facts.last < 4294967295 }
+    requires { m.table.facts.last < 4294967295 }
     ensures { result ≡ laid (offered_answer m heard) }
 {
     if heard { accepted(m) } else { declined(m) }
@@ -301,11 +301,11 @@ pub fn offered_answer(m: Machine, heard: bool) -> Did
 
 // The machine after an answered set or move.
 fn directed(m: Machine) -> Machine
-    requires { m.choice ≡ 2 → m.facts.last < 4294967295 }
+    requires { m.choice ≡ 2 → m.table.facts.last < 4294967295 }
     ensures { result ≡ directed m }
 {
-    let f = m.facts;
-    let rows = m.rows;
+    let f = m.table.facts;
+    let rows = m.table.rows;
     if m.choice == SET_FROM_STATIC {
         let next = ticketed(f);
         let new = Row {
@@ -324,11 +324,11 @@ fn directed(m: Machine) -> Machine
 
 // The header answered: its cell, the new address as data, 514. No answer: the header's cell, 514, nothing changed.
 pub fn direct_answer(m: Machine, heard: bool) -> Did
-    requires { m.choice ≡ 2 → m.facts.last < 4294967295 }
+    requires { m.choice ≡ 2 → m.table.facts.last < 4294967295 }
     ensures { result ≡ laid (direct_answer m heard) }
 {
-    let f = m.facts;
-    let rows = m.rows;
+    let f = m.table.facts;
+    let rows = m.table.rows;
     let header = parity::answer_cell(parity::write_byte(m.asked), heard);
     if heard {
         let data = parity::data_cell(parity::write_byte(m.wanted));

@@ -8,7 +8,7 @@ ghost use Rattle.rows.specs.Rows.{in_use, used, has_address, has_ticket, has_ide
 
 // A board that has an address: its dynamic address, its ticket, its identity or the mark that it is unknown (then the number is 0), and the static
 // address that it was set from, 0 if none. A place whose address is 0 is unused.
-#[derive(Clone, Copy)]
+#[derive(Clone, Copy, Debug, PartialEq, Eq)]
 pub struct Row {
     pub address: u8,
     pub ticket: u32,
