@@ -1,20 +1,20 @@
 -- What the code makes of boards and flags: arrays made element by element (`array::from_fn`), a bit on the wire, and the loop of a round.
 use Prim.Native.Nat.{ℕ, zero, suc, ◌+◌, ◌-◌, ◌*◌, ◌^◌, ◌<◌, ◌≤◌}
 use mathlib.Core.Path.{◌≡◌, refl, sym, ap, ◌∙◌}
-use mathlib.Core.Bool.{Bool, true, false, cond, not, ◌&&◌, ◌||◌}
+use mathlib.Core.Bool.{Bool, true, false, cond, not, ◌&&◌, ◌||◌, and-true, and-false}
 use mathlib.Core.List.{List, [], ◌∷◌, ◌++◌, zip_with}
-use native.Mathlib.Nat.{not-suc-le-zero, pow-suc, le_of_suc-le-suc}
+use native.Mathlib.Nat.{not-suc-le-zero, pow-suc, le_of_suc-le-suc, suc_inj}
 use native.Mathlib.Omega.{arith}
-use borrow.Author.Tests.{lt-ltb, le-ltb, eqb-true, eqb-false}
+use borrow.Author.Tests.{lt-ltb, le-ltb, le-leb, eqb-true, eqb-false}
 use denote.Param.Members.{Mut, Called}
-use lib.Dec.{eqb, leb, ltb, leb-suc-suc}
-use lib.ListN.{length, take, get_or, replicate, get_or-replicate, length-append, length-take, length-map, length-replicate}
+use lib.Dec.{eqb, ltb, leb-suc-suc}
+use lib.ListN.{length, take, set, get_or, length-set, replicate, get_or-replicate, length-append, length-take, length-map, length-replicate}
 use lib.Pow.{pow_mono}
 use mir.Val.{bool_byte}
 use Rattle.std.specs.Array.{IsFromFnResult, IsFromFnResultFrom}
 use Rattle.std.specs.List.{list_any, zip}
 use Rattle.std.proofs.lemmas.List.{same_lists}
-use Rattle.lists.proofs.Zips.{zip_at}
+use Rattle.lists.proofs.Zips.{zip_at, zip_long, zipping, zip_turn, zip_done}
 use Rattle.boards.specs.declared.Board.{Board}
 use Rattle.boards.specs.Wire.{waits, waiting, waiting_first, anyone, sent, sends_zero, wire_bit, keeps_in, stay_in, hear}
 
@@ -49,11 +49,6 @@ module _ {F B : Type 0} (g : Mut F (ℕ × Unit {0}) B) (f : F) (ys xs : List B)
 pub zipped : {A B C : Type 0} (g : A → B → C) (xs : List A) (ys : List B) (i n : ℕ) (x : A) (y : B) (z w d : C) → length xs ≡ n → length ys ≡ n
     → i < n → w ≡ g (get_or xs i x) (get_or ys i y) → z ≡ w → z ≡ get_or (zip_with g xs ys) i d
 zipped g xs ys i n x y z w d p q h e k = k ∙ e ∙ sym (zip_at g xs ys i x y d (omega arith) (omega arith))
-
--- of who stays in, by what the board there sent
-pub stayed : (k seen : ℕ) (bs : List Board) (fs : List Bool) (i n : ℕ) (b : Board) (f : Bool) (s : ℕ) (z d : Bool) → length bs ≡ n → length fs ≡ n
-    → i < n → s ≡ sent k (get_or bs i b) → z ≡ (get_or fs i f && leb s seen) → z ≡ get_or (stay_in k seen bs fs) i d
-stayed k seen bs fs i n b f s z d p q h e t = t ∙ rw e (sym (zip_at (keeps_in k seen) bs fs i b f d (omega arith) (omega arith)))
 
 -- who answers: a flag for each place
 pub waiting_long : (n : ℕ) (bs : List Board) → length bs ≡ 32 → length (waiting_first n bs) ≡ 32
@@ -102,6 +97,55 @@ bit_small k bs fs = go (anyone (zip_with (sends_zero k) bs fs))
     go true = omega arith
     go false = omega arith
 
+-- ---- who stays in
+
+-- at a 0: the flags below i are settled, and those from i on are as they came
+pub record Settled (k : ℕ) (bs : List Board) (fs kept : List Bool) (i : ℕ) : Type 0 where
+  pub long : length kept ≡ length bs
+  pub same : zipping (keeps_in k 0) bs kept i ≡ stay_in k 0 bs fs
+
+-- before the first
+pub settled_start : {k : ℕ} {bs : List Board} {fs : List Bool} → length fs ≡ length bs → Settled k bs fs fs 0
+settled_start e = record { long = e; same = refl }
+
+-- a flag that is put where it stands
+set_here : (fs : List Bool) (i : ℕ) (f : Bool) → set fs i (get_or fs i f) ≡ fs
+set_here [] i f = refl
+set_here (g ∷ fs) zero f = refl
+set_here (g ∷ fs) (suc i) f = rw (set_here fs i f)
+
+module _ {k : ℕ} {bs : List Board} {fs kept : List Bool} {i : ℕ} (v : Settled k bs fs kept i) where
+  -- the next is settled
+  settled_turn : i < length bs → (b : Board) (f now : Bool) → now ≡ keeps_in k 0 (get_or bs i b) (get_or kept i f)
+      → Settled k bs fs (set kept i now) (i + 1)
+  settled_turn h b f now e =
+      record {
+        long = length-set kept i now ∙ v.long;
+        same = rw e (zip_turn (keeps_in k 0) bs kept i b f h (omega (arith, v.long)) ∙ v.same);
+      }
+
+  -- one that sent 1 leaves
+  pub settled_leaves : i < length bs → (b : Board) (s : ℕ) → s ≡ sent k (get_or bs i b) → s ≡ 1 → Settled k bs fs (set kept i false) (i + 1)
+  settled_leaves h b s e one = settled_turn h b false false (rw (← e, one) (sym (and-false (get_or kept i false))))
+
+  -- one that sent 0 stays as it was
+  pub settled_stays : i < length bs → (b : Board) (s : ℕ) → s ≡ sent k (get_or bs i b) → (s ≡ 1 → ⊥) → Settled k bs fs kept (i + 1)
+  settled_stays h b s e other =
+      let none : sent k (get_or bs i b) ≡ 0 = omega (arith, e, other) in
+      rw (set_here kept i false) at (settled_turn h b false (get_or kept i false) (rw none (sym (and-true (get_or kept i false)))))
+
+  -- all are
+  pub settled_ended : length bs ≤ i → kept ≡ stay_in k 0 bs fs
+  settled_ended h = sym (zip_done (keeps_in k 0) bs kept i h (omega (arith, v.long))) ∙ v.same
+
+-- at a 1 nobody leaves
+none_leaves : (k : ℕ) (bs : List Board) (fs : List Bool) → length bs ≡ length fs → stay_in k 1 bs fs ≡ fs
+unfolding zip_with
+none_leaves k [] [] e = refl
+none_leaves k [] (f ∷ fs) e = absurd (omega arith)
+none_leaves k (b ∷ bs) [] e = refl
+none_leaves k (b ∷ bs) (f ∷ fs) e = rw (le-leb (sent k b) 1 (omega arith), and-true f, none_leaves k bs fs (suc_inj e))
+
 -- ---- a round
 
 -- one bit
@@ -119,13 +163,14 @@ hear_end (suc k) bs fs h p = absurd (not-suc-le-zero p)
 
 -- with k of n bits to come: what was heard and who is in lead to what the whole round hears
 pub record Hearing (n : ℕ) (bs : List Board) (fs kept : List Bool) (heard k : ℕ) : Type 0 where
+  pub flags : length bs ≡ length kept
   pub small : heard < 2 ^ (n - k)
   pub same : hear k bs kept heard ≡ hear n bs fs 0
 
 module _ {n : ℕ} {bs : List Board} {fs : List Bool} where
   -- before the first bit
-  pub hearing_start : Hearing n bs fs fs 0 n
-  hearing_start = let none : n - n ≡ 0 = omega arith in record { small = rw none (omega arith); same = refl }
+  pub hearing_start : length bs ≡ length fs → Hearing n bs fs fs 0 n
+  hearing_start e = let none : n - n ≡ 0 = omega arith in record { flags = e; small = rw none (omega arith); same = refl }
 
 module _ {n : ℕ} {bs : List Board} {fs kept : List Bool} {heard k seen : ℕ} (v : Hearing n bs fs kept heard k) (some : 0 < k) (inside : k ≤ n)
     (bit : seen ≡ wire_bit (k - 1) bs kept) where
@@ -134,13 +179,19 @@ module _ {n : ℕ} {bs : List Board} {fs kept : List Bool} {heard k seen : ℕ} 
       let e : n - (k - 1) ≡ suc (n - k) = omega arith in
       rw (e, pow-suc 2 (n - k)) (omega (arith, v.small, bit_small (k - 1) bs kept))
 
+  -- all stay in at a bit that is not 0
+  pub hearing_stay : (seen ≡ 0 → ⊥) → kept ≡ stay_in (k - 1) seen bs kept
+  hearing_stay h =
+      let one : seen ≡ 1 = omega (arith, bit, bit_small (k - 1) bs kept, h) in
+      rw one (sym (none_leaves (k - 1) bs kept v.flags))
+
   -- there is room for one bit more
   pub hearing_room : heard * 2 + seen < 2 ^ n
   hearing_room = omega (arith, one_more, pow_mono {i = n - (k - 1)} {j = n} (omega arith))
 
   -- one bit
   pub hearing_turn : {next : List Bool} → next ≡ stay_in (k - 1) seen bs kept → Hearing n bs fs next (heard * 2 + seen) (k - 1)
-  hearing_turn stay = record { small = one_more; same = rw (stay, bit) (sym (hear_turn k bs kept heard some) ∙ v.same) }
+  hearing_turn stay = record { flags = rw stay (v.flags ∙ sym (zip_long (keeps_in (k - 1) seen) bs kept v.flags)); small = one_more; same = rw (stay, bit) (sym (hear_turn k bs kept heard some) ∙ v.same) }
 
 module _ {n : ℕ} {bs : List Board} {fs kept : List Bool} {heard k : ℕ} where
   -- after the last

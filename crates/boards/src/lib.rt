@@ -76,12 +76,16 @@ fn wire_bit(k: u64, boards: &[Board; 32], still: &[bool; 32]) -> u64
     u64::from(!pulled)
 }
 
-// Who is still in behind bit k: those that sent 1 and see 0 leave.
-fn stay_in(k: u64, seen: u64, boards: &[Board; 32], still: &[bool; 32]) -> [bool; 32]
+// At a 0 those that sent 1 leave. (A store to those alone takes fewer instructions than a new array of flags.)
+fn stay_in(k: u64, boards: &[Board; 32], kept: &mut [bool; 32])
     requires { k < 64 }
-    ensures { result ≡ stay_in k seen boards.now still.now }
+    ensures { kept.new ≡ stay_in k 0 boards.now kept.old }
 {
-    array::from_fn(|i| still[i] & (boards[i].sent(k) <= seen))
+    for (i, board) in boards.iter().enumerate() {
+        if board.sent(k) == 1 {
+            kept[i] = false;
+        }
+    }
 }
 
 // The 64 bits of a round, highest first: all boards that are in send at once, and those that lose leave.
@@ -92,7 +96,9 @@ pub fn listen(boards: &[Board; 32], still: &[bool; 32]) -> Heard
     let mut kept = *still;
     for k in (0..64).rev() {
         let seen = wire_bit(k, boards, &kept);
-        kept = stay_in(k, seen, boards, &kept);
+        if seen == 0 {
+            stay_in(k, boards, &mut kept);
+        }
         identity = identity * 2 + seen;
     }
     Heard {

@@ -1,9 +1,18 @@
--- `boards::stay_in` meets its contract.
+-- `boards::stay_in` meets its contract: a walk over the flags.
 use native.Mathlib.Omega.{arith}
-use Rattle.std.proofs.Common.{rules}
-use Rattle.boards.proofs.Turns.{made, stayed}
-use Rattle.lists.proofs.Zips.{zip_long}
+use Rattle.boards.proofs.Turns.{settled_start, settled_leaves, settled_stays, settled_ended}
 use Rattle.boards.proofs.stay_in.Goals as goal
+use Rattle.boards.proofs.stay_in.Goals.{then-sent-eq1, else-sent-eq1}
+
+pub loop-i-init : goal.loop-i-init
+loop-i-init c = search (arith, settled_start)
+
+pub loop-i-preserved : goal.loop-i-preserved
+loop-i-preserved c =
+    elim c.if-sent-eq1.branch [
+      | then-sent-eq1 w ↦ rw w.kept-is (settled_leaves c.loop-i.invariant (omega arith) _ _ c.sent.ensures w.if-sent-eq1.true)
+      | else-sent-eq1 w ↦ rw w.kept-is (settled_stays c.loop-i.invariant (omega arith) _ _ c.sent.ensures w.if-sent-eq1.false)
+    ]
 
 pub returns : goal.returns
-returns c = made _ _ _ _ 32 c.from_fn.ensures.items (search (arith, zip_long)) (λ i h y q k. (search rules, λ d. search (rules, stayed)))
+returns c = search (arith, settled_ended)
