@@ -31,7 +31,7 @@ pub record Allowed (m : Machine) (count room : ℕ) : Type 0 where
   pub right : machine_right m ≡ true
   pub rests : is_idle m.moment ≡ true
   pub few : count ≤ 32
-  pub begins : assign_refusal m.facts m.rows ≡ 0
+  pub begins : assign_refusal m.table.facts m.table.rows ≡ 0
 
 pub allowed : (m : Machine) (bs : List Board) (count : ℕ) (flips : List ℕ) (room : ℕ) {refusal : ℕ} → refusal ≡ run_refusal m bs count flips room
     → refusal ≡ 0 → Allowed m count room
@@ -71,9 +71,6 @@ module _ (m : Machine) (boards : List Board) (count : ℕ) (flips buffer : List 
     run_cells =
         let p = plain m (take count boards) flips in
         ap (take kept.at) by_rule.cells ∙ take_at p.cells (drop (length p.cells) buffer) kept.at (sym by_rule.at)
-
-    pub run_long : kept.at ≡ length (take kept.at stand)
-    run_long = by_rule.at ∙ ap length (sym run_cells)
 
     pub run_short : length (take kept.at stand) ≤ 1024
     run_short = subst (λ (l : List ℕ). length l ≤ 1024) (sym run_cells) (short m (take count boards) flips)

@@ -75,7 +75,7 @@ plain_rounds_counted (suc n) ks s right =
 
 -- in a run
 pub rounds_counted : (m : Machine) (bs : List Board) (ks : List ℕ) → machine_right m ≡ true
-    → assign_refusal m.facts m.rows ≡ 0 → rounds_in (plain m bs ks).cells ≡ length (plain m bs ks).rounds
+    → assign_refusal m.table.facts m.table.rows ≡ 0 → rounds_in (plain m bs ks).cells ≡ length (plain m bs ks).rounds
 unfolding plain
 rounds_counted m [] ks right asks = refl
 rounds_counted m (b ∷ bs) ks right asks =

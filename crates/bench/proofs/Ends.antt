@@ -34,8 +34,8 @@ rounds_end_right (suc n) ks s right =
     (λ _. idle_right s.facts s.rows (good_says s right).table)
 
 -- in a run
-pub plain_ends_right : (m : Machine) (bs : List Board) (ks : List ℕ) → machine_right m ≡ true → assign_refusal m.facts m.rows ≡ 0
+pub plain_ends_right : (m : Machine) (bs : List Board) (ks : List ℕ) → machine_right m ≡ true → assign_refusal m.table.facts m.table.rows ≡ 0
     → EndsRight (plain m bs ks)
 unfolding plain
-plain_ends_right m [] ks right asks = idle_right m.facts m.rows (right_says m right).0
+plain_ends_right m [] ks right asks = idle_right m.table.facts m.table.rows (right_says m right).0
 plain_ends_right m (b ∷ bs) ks right asks = rounds_end_right 65 ks (at_first m (b ∷ bs)) (first_good m right asks)

@@ -5,7 +5,6 @@ pub mod Same
 pub mod Counts
 pub mod Ends
 pub mod Lent
-pub mod Places
 pub mod Keeping
 pub mod Playing
 pub mod Refused

@@ -25,7 +25,7 @@ module _ (m : Machine) (boards : List Board) (count : ℕ) (flips : List ℕ) (r
       next 11 (le-ltb room 1024 enough) (rest_passed m asked rests (next 16 (le-ltb 32 count few) (next 2 (via addresses low) (here _ (via flipping w) refl))))
 
   -- the flips are too: Begin's refusal is left
-  pub begin_asked : {x : ℕ} → wild ≡ false → x ≡ assign_refusal m.facts m.rows → x ≡ run_refusal m boards count flips room
+  pub begin_asked : {x : ℕ} → wild ≡ false → x ≡ assign_refusal m.table.facts m.table.rows → x ≡ run_refusal m boards count flips room
   unfolding run_refusal
   begin_asked w e =
       next 11 (le-ltb room 1024 enough) (rest_passed m asked rests (next 16 (le-ltb 32 count few) (next 2 (via addresses low) (next 17 (via flipping w) e))))

@@ -107,17 +107,17 @@ rounds_same room (suc n) ks s cells rounds right wide fits =
 -- ---- the run
 
 module _ (room : ℕ) (m : Machine) (lent : 1024 ≤ room) (right : machine_right m ≡ true) (idles : is_idle m.moment ≡ true)
-    (asks : assign_refusal m.facts m.rows ≡ 0) where
+    (asks : assign_refusal m.table.facts m.table.rows ≡ 0) where
   -- the first header, answered or not
   opens_so : (bs : List Board) (some : Bool) → any_board bs ≡ some
       → opened room m bs
-      ≡ (let s = opened_answer (moments.opened m.facts m.rows 0 0 0) some in played s.machine bs (start_cell ∷ s.cells) [] (cond some 0 5))
+      ≡ (let s = opened_answer (moments.opened m.table.facts m.table.rows 0 0 0) some in played s.machine bs (start_cell ∷ s.cells) [] (cond some 0 5))
   unfolding opened
   opens_so bs some e =
       rw (
         e,
         begin_steps m (room - 0) right (omega arith) idles asks,
-        answer_steps (moments.opened m.facts m.rows 0 0 0) (room - 1) (begins_right m right asks) (omega arith) some,
+        answer_steps (moments.opened m.table.facts m.table.rows 0 0 0) (room - 1) (begins_right m right asks) (omega arith) some,
       )
 
   -- without boards the run ends there
@@ -131,11 +131,11 @@ module _ (room : ℕ) (m : Machine) (lent : 1024 ≤ room) (right : machine_righ
   unfolding opened_answer commanded round_rule
   opens_heard b bs =
       opens_so (b ∷ bs) true (rw (ne_eqb (length (b ∷ bs)) 0 (λ (e : suc (length bs) ≡ 0). omega arith)))
-      ∙ rw (begins_can m.facts m.rows asks)
+      ∙ rw (begins_can m.table.facts m.table.rows asks)
 
 -- a run on the wire is the plain rule's
 pub wire_plain : (room : ℕ) (m : Machine) (bs : List Board) (ks : List ℕ) → 1024 ≤ room → machine_right m ≡ true → is_idle m.moment ≡ true
-    → assign_refusal m.facts m.rows ≡ 0 → are_wide bs ≡ true → on_wire room m bs ks ≡ plain m bs ks
+    → assign_refusal m.table.facts m.table.rows ≡ 0 → are_wide bs ≡ true → on_wire room m bs ks ≡ plain m bs ks
 unfolding on_wire plain
 wire_plain room m [] ks lent right idles asks wide =
     ap (rounds_on room 65 ks) (opens_silent room m lent right idles asks) ∙ idle_stays room 65 ks (plain m [] []) refl

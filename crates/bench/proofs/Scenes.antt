@@ -94,11 +94,11 @@ unfolding assign_refusal can_assign
 begins_can f rows asks = let t = simp not-refused at asks in rw (t.0, t.1.0, t.1.1.0)
 
 -- so the machine that Begin opens for assign keeps the rules
-pub begins_right : (m : Machine) → machine_right m ≡ true → assign_refusal m.facts m.rows ≡ 0
-    → machine_right (opened m.facts m.rows 0 0 0) ≡ true
+pub begins_right : (m : Machine) → machine_right m ≡ true → assign_refusal m.table.facts m.table.rows ≡ 0
+    → machine_right (opened m.table.facts m.table.rows 0 0 0) ≡ true
 unfolding asked_right
-begins_right m right asks = opened_right m.facts m.rows (right_says m right).0 0 0 0 (begins_can m.facts m.rows asks)
+begins_right m right asks = opened_right m.table.facts m.table.rows (right_says m right).0 0 0 0 (begins_can m.table.facts m.table.rows asks)
 
 -- and it does at its first round
-pub first_good : (m : Machine) → machine_right m ≡ true → assign_refusal m.facts m.rows ≡ 0 → machine_right (round m.facts m.rows 0) ≡ true
-first_good m right asks = round_right m.facts m.rows (right_says m right).0 0 refl (begins_can m.facts m.rows asks)
+pub first_good : (m : Machine) → machine_right m ≡ true → assign_refusal m.table.facts m.table.rows ≡ 0 → machine_right (round m.table.facts m.table.rows 0) ≡ true
+first_good m right asks = round_right m.table.facts m.table.rows (right_says m right).0 0 refl (begins_can m.table.facts m.table.rows asks)

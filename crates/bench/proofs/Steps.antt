@@ -41,10 +41,10 @@ module _ (m : Machine) (room : ℕ) (right : machine_right m ≡ true) (lent : 8
   answer_steps heard = rw (no_refusal 0)
 
   -- Begin for assign, at idle
-  pub begin_steps : is_idle m.moment ≡ true → assign_refusal m.facts m.rows ≡ 0
-      → begun m 0 0 0 0 room ≡ did (opened m.facts m.rows 0 0 0) (start_cell ∷ [])
+  pub begin_steps : is_idle m.moment ≡ true → assign_refusal m.table.facts m.table.rows ≡ 0
+      → begun m 0 0 0 0 room ≡ did (opened m.table.facts m.table.rows 0 0 0) (start_cell ∷ [])
   unfolding begun begin_refusal beginning choice_refusal
-  begin_steps at_idle asks = rw (no_refusal (idle_refusal m (assign_refusal m.facts m.rows)), at_idle, asks)
+  begin_steps at_idle asks = rw (no_refusal (idle_refusal m (assign_refusal m.table.facts m.table.rows)), at_idle, asks)
 
 -- an identity of eight bytes, at listening
 identity_steps : (f : Facts) (rows : List Row) (refusals : ℕ) (bytes : List ℕ) (room : ℕ) → machine_right (listening f rows refusals) ≡ true

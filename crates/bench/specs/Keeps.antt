@@ -1,11 +1,16 @@
 -- What the code keeps of a run, for the contracts of its private functions: nothing that a caller must believe.
-use Rattle.std.specs.Prelude.{ℕ, ◌≤◌, ◌≡◌, false, List, ◌++◌, length, replicate}
+use Rattle.std.specs.Prelude.{ℕ, ◌+◌, ◌≤◌, ◌≡◌, false, List, ◌++◌, length, replicate}
 use Rattle.lists.specs.Buffers.{lay}
 use Rattle.boards.specs.declared.Board.{Board}
 use Rattle.boards.specs.declared.Heard.{Heard}
+use Rattle.machine.specs.declared.Stepped.{Stepped}
 use Rattle.bench.specs.declared.play.Played.{Played}
 use Rattle.bench.specs.Play.{Play}
 use Rattle.bench.specs.Wire.{offered_on, round_on}
+
+-- what is kept behind a call of the machine, by which nothing else happens
+abbrev pub told : Played → Stepped → Played
+told kept r = record { machine = r.machine; boards = kept.boards; at = kept.at + r.count; rounds = kept.rounds; ending = kept.ending }
 
 -- the run is kept: its boards with others behind them, its cells at the front of a buffer, its rounds by their number
 pub record Keeps (behind : List Board) (buffer : List ℕ) (kept : Played) (stand : List ℕ) (p : Play) : Type 0 where

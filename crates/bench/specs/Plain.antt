@@ -112,7 +112,7 @@ plain_rounds (suc n) ks s =
 
 -- before the first round nothing was refused
 abbrev pub at_first : Machine → List Board → Scene
-at_first m bs = record { facts = m.facts; rows = m.rows; refusals = 0; boards = bs }
+at_first m bs = record { facts = m.table.facts; rows = m.table.rows; refusals = 0; boards = bs }
 
 -- without boards the first header is silent; else the command for assign goes out, and rounds follow, for which 65 are enough
 unfoldable pub plain : Machine → List Board → List ℕ → Play

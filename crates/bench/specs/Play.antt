@@ -1,5 +1,5 @@
 -- What a run is: its record, its rounds, and how it ended.
-use Rattle.std.specs.Prelude.{ℕ, ◌+◌, Bool, true, cond, List, [], ◌∷◌, eqb}
+use Rattle.std.specs.Prelude.{ℕ, ◌+◌, Bool, true, cond, List, [], ◌∷◌, eqb, sum_by}
 use Rattle.lists.specs.Lists.{count}
 use Rattle.parity.specs.Cells.{clocks, broadcast_read}
 use Rattle.slots.specs.declared.Facts.{Facts}
@@ -54,8 +54,7 @@ offer_ending accepted f rows = cond accepted (table_ending f rows) 1
 
 -- clocks: the sum over the cells
 abbrev pub clocks_in : List ℕ → ℕ
-clocks_in [] = 0
-clocks_in (c ∷ cs) = clocks c + clocks_in cs
+clocks_in cells = sum_by clocks cells
 
 -- answered rounds: the round headers, 7Eh/R, that were answered
 abbrev pub rounds_in : List ℕ → ℕ

@@ -20,7 +20,7 @@ run_refusal m boards count flips room =
     (cond (ltb 32 count) 16
     (cond (any (λ b. ltb 127 b.address) boards) 2
     (cond (any (ltb 8) flips) 17
-    (assign_refusal m.facts m.rows)))))
+    (assign_refusal m.table.facts m.table.rows)))))
 
 -- ---- what the bench hands back
 

@@ -43,7 +43,7 @@ round_of byte h p =
 
 -- the ending, if the machine is idle behind the offer; else none yet
 abbrev pub ending_at : Bool → Machine → ℕ
-ending_at accepted m = cond (is_idle m.moment) (offer_ending accepted m.facts m.rows) 0
+ending_at accepted m = cond (is_idle m.moment) (offer_ending accepted m.table.facts m.table.rows) 0
 
 -- ---- with so many cells that the bench is lent
 

@@ -9,12 +9,12 @@ ghost use Rattle.lists.specs.Buffers.{lay};
 ghost use Rattle.bench.specs.Play.{clocks_in};
 ghost use Rattle.bench.specs.Runs.{benched, bench_cells};
 
-mod calls;
 mod play;
 mod refusals;
 
 use boards::Board;
 use machine::Machine;
+use play::Played;
 
 // Refusals: over 32 boards; a flip over 8. The others are those of `machine` (10, 11, 28), `slots` (2) and `begins` (5, 6, 7).
 pub const TOO_MANY_BOARDS: u8 = 16;
@@ -55,13 +55,10 @@ fn clocks(cells: &[u16]) -> usize
     requires { length cells.now ≤ 1024 }
     ensures { result ≡ clocks_in cells.now }
 {
-    let mut sum: usize = 0;
-    let mut i: usize = 0;
-    while i < cells.len() {
-        sum += parity::clocks(cells[i]) as usize;
-        i += 1;
-    }
-    sum
+    cells
+        .iter()
+        .map(|cell| usize::from(parity::clocks(*cell)))
+        .sum()
 }
 
 // One run over the first `count` boards, from Begin until idle; the places behind them are not looked at, and stay. Each offer uses the next flip: 0 to 7
@@ -77,7 +74,7 @@ pub fn run(
     ensures value { result ≡ benched machine boards count flips.now (length cells.old) }
     ensures cells_after { cells.new ≡ lay (bench_cells machine boards count flips.now (length cells.old)) cells.old }
 {
-    let refusal = refusals::run_refusal(machine, boards, count, flips, cells.len());
+    let refusal = refusals::run_refusal(&machine, &boards, count, flips, cells.len());
     if refusal != 0 {
         return Ran {
             machine,
@@ -89,17 +86,20 @@ pub fn run(
             refusal,
         };
     }
-    let played = play::play(machine, boards, count, flips, cells);
-    let at = played.at;
+    let Played {
+        machine,
+        boards,
+        at,
+        rounds,
+        ending,
+    } = play::play(machine, boards, count, flips, cells);
     let clocks = clocks(&cells[..at]);
-    let then = played.machine;
-    let after = played.boards;
     Ran {
-        machine: then,
-        boards: after,
+        machine,
+        boards,
         count: at,
-        ending: played.ending,
-        rounds: played.rounds,
+        ending,
+        rounds,
         clocks,
         refusal: 0,
     }

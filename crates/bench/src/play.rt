@@ -1,12 +1,15 @@
 // A run on the wire: the machine calls, and the boards answer.
-ghost use Rattle.std.specs.Prelude.{◌≡◌, cond, ◌≤◌, ◌<◌, length, take, drop, get_or};
+ghost use Rattle.std.specs.Prelude.{◌≡◌, cond, ◌≤◌, ◌<◌, ◌-◌, length, take, drop, get_or};
+ghost use Rattle.lists.specs.Bits.{bytes_of};
+ghost use Rattle.lists.specs.Buffers.{lay_at};
+ghost use Rattle.machine.specs.Calls.{answered, identified, stepped};
 ghost use Rattle.machine.specs.Moments.{is_idle};
 ghost use Rattle.bench.specs.Play.{offer_ending};
 ghost use Rattle.bench.specs.Wire.{on_wire};
 ghost use Rattle.bench.specs.Wire.{opened};
-ghost use Rattle.bench.specs.Keeps.{Keeps, KeepsRound, KeepsOffer};
+ghost use Rattle.bench.specs.Keeps.{told, Keeps, KeepsRound, KeepsOffer};
 
-use crate::{NO_BOARDS, NO_FREE_ADDRESS, NO_TICKET, NOBODY_LEFT, ROWS_FULL, TWO_REFUSALS, calls};
+use crate::{NO_BOARDS, NO_FREE_ADDRESS, NO_TICKET, NOBODY_LEFT, ROWS_FULL, TWO_REFUSALS};
 use boards::{Board, Heard};
 use machine::{Machine, Moment};
 
@@ -23,23 +26,15 @@ pub struct Played {
     pub ending: u8,
 }
 
-fn is_idle(m: Machine) -> bool
-    ensures { result ≡ is_idle m.moment }
+fn is_idle(m: &Machine) -> bool
+    ensures { result ≡ is_idle m.now.moment }
 {
-    let moment = m.moment;
-    match moment {
-        Moment::Idle => true,
-        Moment::Opened => false,
-        Moment::Round => false,
-        Moment::Listening => false,
-        Moment::Offered => false,
-        Moment::Direct => false,
-    }
+    matches!(m.moment, Moment::Idle)
 }
 
 // How a run ends behind an offer, if it does; else as a silent header would end it.
-fn ending(accepted: bool, m: Machine) -> u8
-    ensures { result ≡ cond (is_idle m.moment) (offer_ending accepted m.facts m.rows) 0 }
+fn ending(accepted: bool, m: &Machine) -> u8
+    ensures { result ≡ cond (is_idle m.now.moment) (offer_ending accepted m.now.table.facts m.now.table.rows) 0 }
 {
     if !is_idle(m) {
         return NOBODY_LEFT;
@@ -47,12 +42,10 @@ fn ending(accepted: bool, m: Machine) -> u8
     if !accepted {
         return TWO_REFUSALS;
     }
-    let f = m.facts;
-    let rows = m.rows;
-    if free::full(rows) {
+    if free::full(m.table.rows) {
         return ROWS_FULL;
     }
-    if free::no_free_address(f, rows) {
+    if free::no_free_address(m.table.facts, m.table.rows) {
         return NO_FREE_ADDRESS;
     }
     NO_TICKET
@@ -62,7 +55,7 @@ fn ending(accepted: bool, m: Machine) -> u8
 fn flip_at(flips: &[u8], i: usize) -> u8
     ensures { result ≡ get_or flips.now i 8 }
 {
-    if i < flips.len() { flips[i] } else { 8 }
+    flips.get(i).copied().unwrap_or(8)
 }
 
 // Begin, and the first header, which any board answers.
@@ -71,69 +64,78 @@ fn opened(machine: Machine, boards: [Board; 32], count: usize, cells: &mut [u16]
     ensures { Keeps (drop count boards) cells.old result cells.new (opened (length cells.old) machine (take count boards)) }
 {
     let begun = machine.begin(begins::ASSIGN, 0, 0, 0, cells);
-    let m = begun.machine;
-    let at = begun.count;
     let heard = 0 < count;
-    let answered = calls::answer(m, heard, at, cells);
-    let then = answered.machine;
-    Played {
-        machine: then,
+    let run = Played {
+        machine: begun.machine,
         boards,
-        at: at + answered.count,
+        at: begun.count,
         rounds: 0,
         ending: if heard { NOBODY_LEFT } else { NO_BOARDS },
-    }
-}
-
-// Behind the bits of the identities: the machine is told what was heard, and all see the address byte that it offers, perhaps with one bit flipped.
-fn offered(p: Played, heard: Heard, flip: u8, cells: &mut [u16]) -> Played
-    requires { (p.at ≤ length cells.old) × (p.rounds < 65) }
-    ensures { KeepsOffer heard flip p cells.old result cells.new }
-{
-    let bytes = calls::bytes(heard.identity);
-    let m = p.machine;
-    let listens = calls::identity(m, bytes, p.at, cells);
-    let offers = listens.machine;
-    let byte = parity::flipped(flip, parity::offered_byte(offers.offered));
-    let still = heard.still;
-    let taken = boards::anyone(still) & parity::odd_ones(byte);
-    let at = p.at + listens.count;
-    let answered = calls::answer(offers, taken, at, cells);
-    let then = answered.machine;
-    let before = p.boards;
-    let after = boards::offer(before, still, byte);
-    Played {
-        machine: then,
-        boards: after,
-        at: at + answered.count,
-        rounds: p.rounds + 1,
-        ending: ending(taken, then),
-    }
-}
-
-// A round: its header, which only boards without an address answer; then they send their identities, all at once.
-fn round(p: Played, count: usize, flip: u8, cells: &mut [u16]) -> Played
-    requires { (p.at ≤ length cells.old) × (p.rounds < 65) }
-    ensures { KeepsRound count flip p cells.old result cells.new }
-{
-    let m = p.machine;
-    let boards = p.boards;
-    let still = boards::waiting(boards, count);
-    let heard = boards::anyone(still);
-    let header = calls::answer(m, heard, p.at, cells);
-    let then = header.machine;
-    let next = Played {
-        machine: then,
-        boards,
-        at: p.at + header.count,
-        rounds: p.rounds,
-        ending: p.ending,
     };
-    if !heard {
-        return next;
+    run.answered(heard, cells)
+}
+
+impl Played {
+    // Behind an answer to the machine, or none.
+    fn answered(self, heard: bool, cells: &mut [u16]) -> Played
+        requires { self.at ≤ length cells.old }
+        ensures value { result ≡ told self (stepped (answered self.machine heard (length cells.old - self.at))) }
+        ensures cells_after { cells.new ≡ lay_at self.at (answered self.machine heard (length cells.old - self.at)).cells cells.old }
+    {
+        let step = self.machine.answer(heard, &mut cells[self.at..]);
+        Played {
+            machine: step.machine,
+            at: self.at + step.count,
+            ..self
+        }
     }
-    let identities = boards::listen(boards, still);
-    offered(next, identities, flip, cells)
+
+    // Behind the eight bytes of an identity, highest first, that the machine is told.
+    fn identified(self, identity: u64, cells: &mut [u16]) -> Played
+        requires { self.at ≤ length cells.old }
+        ensures value { result ≡ told self (stepped (identified self.machine (bytes_of 8 identity) (length cells.old - self.at))) }
+        ensures cells_after { cells.new ≡ lay_at self.at (identified self.machine (bytes_of 8 identity) (length cells.old - self.at)).cells cells.old }
+    {
+        let step = self
+            .machine
+            .identity(&identity.to_be_bytes(), &mut cells[self.at..]);
+        Played {
+            machine: step.machine,
+            at: self.at + step.count,
+            ..self
+        }
+    }
+
+    // Behind the bits of the identities: the machine is told what was heard, and all see the address byte that it offers, perhaps with one bit flipped.
+    fn offered(self, heard: &Heard, flip: u8, cells: &mut [u16]) -> Played
+        requires { (self.at ≤ length cells.old) × (self.rounds < 65) }
+        ensures { KeepsOffer heard.now flip self cells.old result cells.new }
+    {
+        let offers = self.identified(heard.identity, cells);
+        let byte = parity::flipped(flip, parity::offered_byte(offers.machine.offered));
+        let taken = boards::anyone(&heard.still) & parity::odd_ones(byte);
+        let then = offers.answered(taken, cells);
+        Played {
+            boards: boards::offer(&self.boards, &heard.still, byte),
+            rounds: self.rounds + 1,
+            ending: ending(taken, &then.machine),
+            ..then
+        }
+    }
+
+    // Behind a round: its header, which only boards without an address answer; then they send their identities, all at once.
+    fn round(self, count: usize, flip: u8, cells: &mut [u16]) -> Played
+        requires { (self.at ≤ length cells.old) × (self.rounds < 65) }
+        ensures { KeepsRound count flip self cells.old result cells.new }
+    {
+        let still = boards::waiting(&self.boards, count);
+        let heard = boards::anyone(&still);
+        let next = self.answered(heard, cells);
+        if !heard {
+            return next;
+        }
+        next.offered(&boards::listen(&self.boards, &still), flip, cells)
+    }
 }
 
 // The whole run: rounds until the machine is idle.
@@ -147,17 +149,12 @@ pub fn play(
     requires { count ≤ 32 }
     ensures { Keeps (drop count boards) cells.old result cells.new (on_wire (length cells.old) machine (take count boards) flips.now) }
 {
-    let mut p = opened(machine, boards, count, cells);
-    let mut i: usize = 0;
-    while i < MOST_ROUNDS {
-        let m = p.machine;
-        if is_idle(m) {
-            return p;
+    let mut run = opened(machine, boards, count, cells);
+    for i in 0..MOST_ROUNDS {
+        if is_idle(&run.machine) {
+            return run;
         }
-        let flip = flip_at(flips, i);
-        let next = round(p, count, flip, cells);
-        p = next;
-        i += 1;
+        run = run.round(count, flip_at(flips, i), cells);
     }
-    p
+    run
 }

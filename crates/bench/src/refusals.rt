@@ -8,37 +8,22 @@ use boards::Board;
 use machine::Machine;
 
 // Whether one of the first `count` boards has an address over 127.
-fn address_over_127(boards: [Board; 32], count: usize) -> bool
-    ensures { result ≡ any (λ b. ltb 127 b.address) (take count boards) }
+fn address_over_127(boards: &[Board; 32], count: usize) -> bool
+    ensures { result ≡ any (λ b. ltb 127 b.address) (take count boards.now) }
 {
-    let mut i: usize = 0;
-    while i < 32 {
-        let b = boards[i];
-        if (i < count) & (127 < b.address) {
-            return true;
-        }
-        i += 1;
-    }
-    false
+    boards.iter().take(count).any(|board| 127 < board.address)
 }
 
 // Whether a flip is over 8, used or not.
 fn flip_over_8(flips: &[u8]) -> bool
     ensures { result ≡ any (ltb 8) flips.now }
 {
-    let mut i: usize = 0;
-    while i < flips.len() {
-        if 8 < flips[i] {
-            return true;
-        }
-        i += 1;
-    }
-    false
+    flips.iter().any(|flip| 8 < *flip)
 }
 
 // A run that is lent so many cells.
-pub fn run_refusal(m: Machine, boards: [Board; 32], count: usize, flips: &[u8], room: usize) -> u8
-    ensures { result ≡ refusal_of m boards count flips.now room }
+pub fn run_refusal(m: &Machine, boards: &[Board; 32], count: usize, flips: &[u8], room: usize) -> u8
+    ensures { result ≡ refusal_of m.now boards.now count flips.now room }
 {
     if room < MOST_CELLS {
         return machine::TOO_FEW_CELLS;
@@ -56,7 +41,5 @@ pub fn run_refusal(m: Machine, boards: [Board; 32], count: usize, flips: &[u8], 
     if flip_over_8(flips) {
         return FLIP_OVER_8;
     }
-    let f = m.facts;
-    let rows = m.rows;
-    begins::choice_refusal(f, rows, begins::ASSIGN, 0, 0, 0)
+    begins::choice_refusal(m.table.facts, m.table.rows, begins::ASSIGN, 0, 0, 0)
 }

@@ -1,24 +1,56 @@
--- The loops of this crate, one turn at a time: over the boards and their flags side by side, and over the bits of a round.
-use mathlib.Core.Path.{◌≡◌, refl, sym, ◌∙◌}
-use mathlib.Core.Bool.{Bool, true, false, cond, ◌&&◌, and-true, and-false}
-use mathlib.Core.List.{List, [], ◌∷◌, ◌++◌, map, zip_with}
+-- What the code makes of boards and flags: arrays made element by element (`array::from_fn`), a bit on the wire, and the loop of a round.
 use Prim.Native.Nat.{ℕ, zero, suc, ◌+◌, ◌-◌, ◌*◌, ◌^◌, ◌<◌, ◌≤◌}
+use mathlib.Core.Path.{◌≡◌, refl, sym, ap, ◌∙◌}
+use mathlib.Core.Bool.{Bool, true, false, cond, not, ◌&&◌, ◌||◌, and-true, and-false}
+use mathlib.Core.List.{List, [], ◌∷◌, ◌++◌, zip_with}
 use native.Mathlib.Nat.{not-suc-le-zero, pow-suc, le_of_suc-le-suc, suc_inj}
 use native.Mathlib.Omega.{arith}
-use borrow.Author.Tests.{lt-ltb, le-ltb, le-leb}
-use lib.Dec.{ltb, leb-suc-suc}
-use lib.ListN.{length, take, get_or, replicate, set, get_or-replicate, get_or-map}
-use lib.ListN.{length-append, length-take, length-map, length-replicate, length-set}
+use borrow.Author.Tests.{lt-ltb, le-ltb, le-leb, eqb-true, eqb-false}
+use denote.Param.Members.{Mut, Called}
+use lib.Dec.{eqb, ltb, leb-suc-suc}
+use lib.ListN.{length, take, set, get_or, length-set, replicate, get_or-replicate, length-append, length-take, length-map, length-replicate}
 use lib.Pow.{pow_mono}
-use Rattle.lists.proofs.Edits.{Filled, filled_start, filled_turn, filled_whole}
-use Rattle.lists.proofs.Loops.{Any, any_start, any_turn, any_found, any_ended}
+use mir.Val.{bool_byte}
+use Rattle.std.specs.Array.{IsFromFnResult, IsFromFnResultFrom}
+use Rattle.std.specs.List.{list_any, zip}
+use Rattle.std.proofs.lemmas.List.{same_lists}
 use Rattle.lists.proofs.Zips.{zip_at, zip_long, zipping, zip_turn, zip_done}
 use Rattle.boards.specs.declared.Board.{Board}
-use Rattle.boards.specs.Wire.{waits, waiting, waiting_first, anyone, board_of, sent, wire_bit, sends_zero, keeps_in, stay_in, hear}
+use Rattle.boards.specs.Wire.{waits, waiting, waiting_first, anyone, sent, sends_zero, wire_bit, keeps_in, stay_in, hear}
 
--- ---- who answers
+-- ---- an array made by a closure that changes nothing it took in
 
--- a flag for each place
+module _ {F B : Type 0} (g : Mut F (ℕ × Unit {0}) B) (f : F) (ys xs : List B) where
+  -- a call at a place gives the list's element there, and leaves the closure as it was
+  abbrev pub GivesAt : ℕ → Type 0
+  GivesAt i = (y : B) (q : F) → Called g f (i, tt) y q → (q ≡ f) × ((d : B) → y ≡ get_or xs i d)
+
+  -- the calls from i on
+  made_from : (n i : ℕ) → IsFromFnResultFrom g f ys i n → ((k : ℕ) → k < i + n → GivesAt k)
+      → (k : ℕ) (d : B) → i ≤ k → k < i + n → get_or ys k d ≡ get_or xs k d
+  made_from zero i m s k d p q = absurd (omega arith)
+  made_from (suc n) i m s k d p q =
+      let here = s i (omega arith) m.1 m.0 m.3 in
+      let later = made_from n (i + 1) (rw here.0 at m.4) (λ j b. s j (omega arith)) k d in
+      go (m.2.1 d ∙ here.1 d) later (eqb k i) refl
+    where
+      go : get_or ys i d ≡ get_or xs i d → (i + 1 ≤ k → k < i + 1 + n → get_or ys k d ≡ get_or xs k d)
+          → (b : Bool) → eqb k i ≡ b → get_or ys k d ≡ get_or xs k d
+      go t l true e = rw (eqb-true k i e) t
+      go t l false e = l (omega (arith, eqb-false k i e)) (omega arith)
+
+  -- so it is the list
+  pub made : (n : ℕ) → IsFromFnResult g f ys n → length xs ≡ n → ((k : ℕ) → k < n → GivesAt k) → ys ≡ xs
+  made n m e s = same_lists ys xs (m.long ∙ sym e) (λ k d h. made_from n 0 m.each (λ j b. s j (omega arith)) k d (omega arith) (omega (arith, m.long)))
+
+-- ---- its elements
+
+-- of two lists zipped, by those at its place
+pub zipped : {A B C : Type 0} (g : A → B → C) (xs : List A) (ys : List B) (i n : ℕ) (x : A) (y : B) (z w d : C) → length xs ≡ n → length ys ≡ n
+    → i < n → w ≡ g (get_or xs i x) (get_or ys i y) → z ≡ w → z ≡ get_or (zip_with g xs ys) i d
+zipped g xs ys i n x y z w d p q h e k = k ∙ e ∙ sym (zip_at g xs ys i x y d (omega arith) (omega arith))
+
+-- who answers: a flag for each place
 pub waiting_long : (n : ℕ) (bs : List Board) → length bs ≡ 32 → length (waiting_first n bs) ≡ 32
 waiting_long n bs e = rw (length-append, length-map, length-take, length-replicate, e) (omega arith)
 
@@ -36,69 +68,28 @@ flag_at (suc n) (b ∷ bs) (suc i) d f h =
     rw (rest, less) (flag_at n bs i d f (le_of_suc-le-suc h))
 
 -- the flag at a place
-pub waiting_at : (n : ℕ) (bs : List Board) (i : ℕ) (d : Board) (f : Bool) → length bs ≡ 32 → i < 32
-    → (ltb i n && waits (get_or bs i d)) ≡ get_or (waiting_first n bs) i f
-waiting_at n bs i d f e h = sym (rw e at (flag_at n bs i d f (rw e h)))
-
--- ---- identities
-
--- the numbers below i are the boards' identities
-pub record Identified (bs : List Board) (d : Board) (ids : List ℕ) (n i : ℕ) : Type 0 where
-  pub boards : length bs ≡ n
-  pub filled : Filled (map (λ b. b.identity) bs) ids n i
-
-module _ {bs : List Board} {d : Board} {ids : List ℕ} {n : ℕ} where
-  -- before the first
-  pub identified_start : length bs ≡ n → length ids ≡ n → Identified bs d ids n 0
-  identified_start p q = record { boards = p; filled = filled_start q (rw (length-map bs (λ b. b.identity)) (omega arith)) }
-
-module _ {bs : List Board} {d : Board} {ids : List ℕ} {n i : ℕ} where
-  -- one number
-  pub identified_turn : {id : ℕ} → Identified bs d ids n i → i < n → id ≡ (get_or bs i d).identity → Identified bs d (set ids i id) n (i + 1)
-  identified_turn {id} v h e =
-      let next = e ∙ sym (get_or-map (λ (b : Board). b.identity) bs i d) in
-      record { boards = v.boards; filled = filled_turn v.filled h id d.identity next }
-
-  -- after the last
-  pub identified_ended : Identified bs d ids n i → n ≤ i → ids ≡ map (λ b. b.identity) bs
-  identified_ended v h = filled_whole v.filled h (length-map bs (λ b. b.identity) ∙ v.boards)
+pub waiting_at : (n : ℕ) (bs : List Board) (i : ℕ) (b : Board) (f z : Bool) → length bs ≡ 32 → i < 32
+    → z ≡ (ltb i n && waits (get_or bs i b)) → z ≡ get_or (waiting_first n bs) i f
+waiting_at n bs i b f z e h p = p ∙ sym (rw e at (flag_at n bs i b f (rw e h)))
 
 -- ---- one bit
 
--- no board below i sends 0 as bit k
-pub record NoZero (k : ℕ) (ids : List ℕ) (fs : List Bool) (n i : ℕ) : Type 0 where
-  pub numbers : length ids ≡ n
-  pub flags : length fs ≡ n
-  pub below : Any (λ f. f) (zip_with (sends_zero k) (map board_of ids) fs) false n i
+-- whether any sends 0, each board beside its flag
+any_zip : (g : Board → Bool → Bool) (bs : List Board) (fs : List Bool) → list_any (λ p. g p.0 p.1) (zip bs fs) ≡ anyone (zip_with g bs fs)
+unfolding zip_with
+any_zip g [] fs = refl
+any_zip g (b ∷ bs) [] = refl
+any_zip g (b ∷ bs) (f ∷ fs) = ap (λ (r : Bool). g b f || r) (any_zip g bs fs)
 
-module _ {k : ℕ} {ids : List ℕ} {fs : List Bool} {n : ℕ} where
-  -- before the first
-  pub zero_start : length ids ≡ n → length fs ≡ n → NoZero k ids fs n 0
-  zero_start p q =
-      let long = zip_long (sends_zero k) (map board_of ids) fs (length-map ids board_of ∙ p ∙ sym q) ∙ q in
-      record { numbers = p; flags = q; below = any_start long }
+-- the bit is 0 then, and else 1
+pub pulled : (k : ℕ) (bs : List Board) (fs : List Bool) (r : Bool) (w : ℕ) → r ≡ list_any (λ p. sends_zero k p.0 p.1) (zip bs fs)
+    → w ≡ bool_byte (not r) → w ≡ wire_bit k bs fs
+pulled k bs fs r w e p = p ∙ rw (e, any_zip (sends_zero k) bs fs) (go (anyone (zip_with (sends_zero k) bs fs)))
+  where
+    go : (b : Bool) → bool_byte (not b) ≡ cond b 0 1
+    go true = refl
+    go false = refl
 
-module _ {k : ℕ} {ids : List ℕ} {fs : List Bool} {n i : ℕ} (v : NoZero k ids fs n i) where
-  -- the board at i, by its number and its flag
-  zero_at : i < n → (d : ℕ) (f : Bool)
-      → get_or (zip_with (sends_zero k) (map board_of ids) fs) i false ≡ sends_zero k (board_of (get_or ids i d)) (get_or fs i f)
-  zero_at h d f =
-      zip_at (sends_zero k) (map board_of ids) fs i (board_of d) f false (rw (length-map ids board_of, v.numbers) h) (omega arith)
-      ∙ rw (get_or-map board_of ids i d)
-
-  -- the next does not
-  pub zero_turn : i < n → (d : ℕ) (f : Bool) → sends_zero k (board_of (get_or ids i d)) (get_or fs i f) ≡ false → NoZero k ids fs n (i + 1)
-  zero_turn h d f e = record { numbers = v.numbers; flags = v.flags; below = any_turn v.below h (zero_at h d f ∙ e) }
-
-  -- the next does: the bit is 0
-  pub zero_found : i < n → (d : ℕ) (f : Bool) → sends_zero k (board_of (get_or ids i d)) (get_or fs i f) ≡ true → 0 ≡ wire_bit k (map board_of ids) fs
-  zero_found h d f e = rw (← any_found v.below h (zero_at h d f ∙ e))
-
-  -- none does: it is 1
-  pub zero_ended : n ≤ i → 1 ≡ wire_bit k (map board_of ids) fs
-  zero_ended h = rw (← any_ended v.below h)
-
--- a bit is 0 or 1
 bit_small : (k : ℕ) (bs : List Board) (fs : List Bool) → wire_bit k bs fs < 2
 bit_small k bs fs = go (anyone (zip_with (sends_zero k) bs fs))
   where
@@ -109,15 +100,13 @@ bit_small k bs fs = go (anyone (zip_with (sends_zero k) bs fs))
 -- ---- who stays in
 
 -- at a 0: the flags below i are settled, and those from i on are as they came
-pub record Settled (k : ℕ) (ids : List ℕ) (fs kept : List Bool) (n i : ℕ) : Type 0 where
-  pub numbers : length ids ≡ n
-  pub flags : length kept ≡ n
-  pub same : zipping (keeps_in k 0) (map board_of ids) kept i ≡ stay_in k 0 (map board_of ids) fs
+pub record Settled (k : ℕ) (bs : List Board) (fs kept : List Bool) (i : ℕ) : Type 0 where
+  pub long : length kept ≡ length bs
+  pub same : zipping (keeps_in k 0) bs kept i ≡ stay_in k 0 bs fs
 
-module _ {k : ℕ} {ids : List ℕ} {fs : List Bool} {n : ℕ} where
-  -- before the first
-  pub settled_start : length ids ≡ n → length fs ≡ n → Settled k ids fs fs n 0
-  settled_start p q = record { numbers = p; flags = q; same = refl }
+-- before the first
+pub settled_start : {k : ℕ} {bs : List Board} {fs : List Bool} → length fs ≡ length bs → Settled k bs fs fs 0
+settled_start e = record { long = e; same = refl }
 
 -- a flag that is put where it stands
 set_here : (fs : List Bool) (i : ℕ) (f : Bool) → set fs i (get_or fs i f) ≡ fs
@@ -125,35 +114,29 @@ set_here [] i f = refl
 set_here (g ∷ fs) zero f = refl
 set_here (g ∷ fs) (suc i) f = rw (set_here fs i f)
 
-module _ {k : ℕ} {ids : List ℕ} {fs kept : List Bool} {n i : ℕ} (v : Settled k ids fs kept n i) where
-  -- as many boards as places
-  settled_boards : length (map board_of ids) ≡ n
-  settled_boards = length-map ids board_of ∙ v.numbers
-
+module _ {k : ℕ} {bs : List Board} {fs kept : List Bool} {i : ℕ} (v : Settled k bs fs kept i) where
   -- the next is settled
-  settled_turn : i < n → (d : ℕ) (f now : Bool) → now ≡ keeps_in k 0 (board_of (get_or ids i d)) (get_or kept i f)
-      → Settled k ids fs (set kept i now) n (i + 1)
-  settled_turn h d f now e =
-      let turn = zip_turn (keeps_in k 0) (map board_of ids) kept i (board_of d) f (rw settled_boards h) (omega arith) in
+  settled_turn : i < length bs → (b : Board) (f now : Bool) → now ≡ keeps_in k 0 (get_or bs i b) (get_or kept i f)
+      → Settled k bs fs (set kept i now) (i + 1)
+  settled_turn h b f now e =
       record {
-        numbers = v.numbers;
-        flags = length-set kept i now ∙ v.flags;
-        same = rw e (rw (get_or-map board_of ids i d) at turn ∙ v.same);
+        long = length-set kept i now ∙ v.long;
+        same = rw e (zip_turn (keeps_in k 0) bs kept i b f h (omega (arith, v.long)) ∙ v.same);
       }
 
   -- one that sent 1 leaves
-  pub settled_leaves : i < n → (d : ℕ) → sent k (board_of (get_or ids i d)) ≡ 1 → Settled k ids fs (set kept i false) n (i + 1)
-  settled_leaves h d e = settled_turn h d false false (rw e (sym (and-false (get_or kept i false))))
+  pub settled_leaves : i < length bs → (b : Board) (s : ℕ) → s ≡ sent k (get_or bs i b) → s ≡ 1 → Settled k bs fs (set kept i false) (i + 1)
+  settled_leaves h b s e one = settled_turn h b false false (rw (← e, one) (sym (and-false (get_or kept i false))))
 
   -- one that sent 0 stays as it was
-  pub settled_stays : i < n → (d : ℕ) → (sent k (board_of (get_or ids i d)) ≡ 1 → ⊥) → Settled k ids fs kept n (i + 1)
-  settled_stays h d e =
-      let none : sent k (board_of (get_or ids i d)) ≡ 0 = omega (arith, e) in
-      rw (set_here kept i false) at (settled_turn h d false (get_or kept i false) (rw none (sym (and-true (get_or kept i false)))))
+  pub settled_stays : i < length bs → (b : Board) (s : ℕ) → s ≡ sent k (get_or bs i b) → (s ≡ 1 → ⊥) → Settled k bs fs kept (i + 1)
+  settled_stays h b s e other =
+      let none : sent k (get_or bs i b) ≡ 0 = omega (arith, e, other) in
+      rw (set_here kept i false) at (settled_turn h b false (get_or kept i false) (rw none (sym (and-true (get_or kept i false)))))
 
   -- all are
-  pub settled_ended : n ≤ i → kept ≡ stay_in k 0 (map board_of ids) fs
-  settled_ended h = sym (zip_done (keeps_in k 0) (map board_of ids) kept i (rw settled_boards h) (omega arith)) ∙ v.same
+  pub settled_ended : length bs ≤ i → kept ≡ stay_in k 0 bs fs
+  settled_ended h = sym (zip_done (keeps_in k 0) bs kept i h (omega (arith, v.long))) ∙ v.same
 
 -- at a 1 nobody leaves
 none_leaves : (k : ℕ) (bs : List Board) (fs : List Bool) → length bs ≡ length fs → stay_in k 1 bs fs ≡ fs
@@ -178,73 +161,39 @@ unfolding hear
 hear_end zero bs fs h p = refl
 hear_end (suc k) bs fs h p = absurd (not-suc-le-zero p)
 
--- what is heard has a bit for each bit that is past
-hear_room : (n k h w : ℕ) → 0 < k → k ≤ n → h < 2 ^ (n - k) → w < 2 → (h * 2 + w < 2 ^ (n - (k - 1))) × (h * 2 + w < 2 ^ n)
-hear_room n k h w p q r s =
-    let e : n - (k - 1) ≡ suc (n - k) = omega arith in
-    let one : h * 2 + w < 2 ^ (n - (k - 1)) = rw (e, pow-suc 2 (n - k)) (omega arith) in
-    (one, omega (arith, pow_mono {i = n - (k - 1)} {j = n} (omega arith)))
-
 -- with k of n bits to come: what was heard and who is in lead to what the whole round hears
-pub record Hearing (n : ℕ) (ids : List ℕ) (fs kept : List Bool) (heard k : ℕ) : Type 0 where
-  pub inside : k ≤ n
-  pub flags : length kept ≡ length ids
+pub record Hearing (n : ℕ) (bs : List Board) (fs kept : List Bool) (heard k : ℕ) : Type 0 where
+  pub flags : length bs ≡ length kept
   pub small : heard < 2 ^ (n - k)
-  pub same : hear k (map board_of ids) kept heard ≡ hear n (map board_of ids) fs 0
+  pub same : hear k bs kept heard ≡ hear n bs fs 0
 
-module _ {n : ℕ} {ids : List ℕ} {fs : List Bool} where
+module _ {n : ℕ} {bs : List Board} {fs : List Bool} where
   -- before the first bit
-  pub hearing_start : length fs ≡ length ids → Hearing n ids fs fs 0 n
-  hearing_start e =
-      let none : n - n ≡ 0 = omega arith in
-      record { inside = omega arith; flags = e; small = rw none (omega arith); same = refl }
+  pub hearing_start : length bs ≡ length fs → Hearing n bs fs fs 0 n
+  hearing_start e = let none : n - n ≡ 0 = omega arith in record { flags = e; small = rw none (omega arith); same = refl }
 
-module _ {n : ℕ} {ids : List ℕ} {fs kept : List Bool} {heard k : ℕ} (v : Hearing n ids fs kept heard k) where
-  -- a flag for each board
-  hearing_flags : length (map board_of ids) ≡ length kept
-  hearing_flags = length-map ids board_of ∙ sym v.flags
+module _ {n : ℕ} {bs : List Board} {fs kept : List Bool} {heard k seen : ℕ} (v : Hearing n bs fs kept heard k) (some : 0 < k) (inside : k ≤ n)
+    (bit : seen ≡ wire_bit (k - 1) bs kept) where
+  one_more : heard * 2 + seen < 2 ^ (n - (k - 1))
+  one_more =
+      let e : n - (k - 1) ≡ suc (n - k) = omega arith in
+      rw (e, pow-suc 2 (n - k)) (omega (arith, v.small, bit_small (k - 1) bs kept))
 
   -- all stay in at a bit that is not 0
-  pub hearing_stay : (seen : ℕ) → seen ≡ wire_bit (k - 1) (map board_of ids) kept → (seen ≡ 0 → ⊥) → kept ≡ stay_in (k - 1) seen (map board_of ids) kept
-  hearing_stay seen bit h =
-      let one : seen ≡ 1 = omega (arith, bit, bit_small (k - 1) (map board_of ids) kept, h) in
-      rw one (sym (none_leaves (k - 1) (map board_of ids) kept hearing_flags))
+  pub hearing_stay : (seen ≡ 0 → ⊥) → kept ≡ stay_in (k - 1) seen bs kept
+  hearing_stay h =
+      let one : seen ≡ 1 = omega (arith, bit, bit_small (k - 1) bs kept, h) in
+      rw one (sym (none_leaves (k - 1) bs kept v.flags))
 
   -- there is room for one bit more
-  pub hearing_room : 0 < k → (seen : ℕ) → seen ≡ wire_bit (k - 1) (map board_of ids) kept
-      → (heard * 2 + seen < 2 ^ (n - (k - 1))) × (heard * 2 + seen < 2 ^ n)
-  hearing_room p seen bit = hear_room n k heard seen p v.inside v.small (rw bit (bit_small (k - 1) (map board_of ids) kept))
+  pub hearing_room : heard * 2 + seen < 2 ^ n
+  hearing_room = omega (arith, one_more, pow_mono {i = n - (k - 1)} {j = n} (omega arith))
 
   -- one bit
-  pub hearing_turn : 0 < k → (seen : ℕ) → seen ≡ wire_bit (k - 1) (map board_of ids) kept
-      → (next : List Bool) → next ≡ stay_in (k - 1) seen (map board_of ids) kept → Hearing n ids fs next (heard * 2 + seen) (k - 1)
-  hearing_turn p seen bit next stay =
-      record {
-        inside = omega arith;
-        flags = rw stay (zip_long (keeps_in (k - 1) seen) (map board_of ids) kept hearing_flags ∙ v.flags);
-        small = (hearing_room p seen bit).0;
-        same = rw (stay, bit) (sym (hear_turn k (map board_of ids) kept heard p) ∙ v.same);
-      }
+  pub hearing_turn : {next : List Bool} → next ≡ stay_in (k - 1) seen bs kept → Hearing n bs fs next (heard * 2 + seen) (k - 1)
+  hearing_turn stay = record { flags = rw stay (v.flags ∙ sym (zip_long (keeps_in (k - 1) seen) bs kept v.flags)); small = one_more; same = rw (stay, bit) (sym (hear_turn k bs kept heard some) ∙ v.same) }
 
+module _ {n : ℕ} {bs : List Board} {fs kept : List Bool} {heard k : ℕ} where
   -- after the last
-  pub hearing_ended : k ≤ 0 → record { identity = heard; still = kept } ≡ hear n (map board_of ids) fs 0
-  hearing_ended p = sym (hear_end k (map board_of ids) kept heard p) ∙ v.same
-
--- ---- a round asks for identities alone
-
--- a flag that is made of a board's identity and its flag
-zip_identities : (g : Board → Bool → Bool) → ((b : Board) (f : Bool) → g (board_of b.identity) f ≡ g b f) → (bs : List Board) (fs : List Bool)
-    → zip_with g (map board_of (map (λ b. b.identity) bs)) fs ≡ zip_with g bs fs
-unfolding zip_with
-zip_identities g e [] fs = refl
-zip_identities g e (b ∷ bs) [] = refl
-zip_identities g e (b ∷ bs) (f ∷ fs) = rw (e b f, zip_identities g e bs fs)
-
--- so the round of the numbers is the round of the boards
-pub hear_identities : (k : ℕ) (bs : List Board) (fs : List Bool) (h : ℕ) → hear k (map board_of (map (λ b. b.identity) bs)) fs h ≡ hear k bs fs h
-unfolding hear
-hear_identities zero bs fs h = refl
-hear_identities (suc k) bs fs h =
-    let seen = wire_bit k bs fs in
-    rw (zip_identities (sends_zero k) (λ b f. refl) bs fs, zip_identities (keeps_in k seen) (λ b f. refl) bs fs)
-    (hear_identities k bs (stay_in k seen bs fs) (h * 2 + seen))
+  pub hearing_ended : Hearing n bs fs kept heard k → k ≤ 0 → record { identity = heard; still = kept } ≡ hear n bs fs 0
+  hearing_ended v p = sym (hear_end k bs kept heard p) ∙ v.same

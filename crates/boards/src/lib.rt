@@ -1,145 +1,115 @@
 // The boards on the wire: who answers, what all of them send together, and what each does with the address byte that it sees.
 //
-// Boards stand in 32 places by value, with a flag beside each that says whether it is still in the round:
+// Boards stand in 32 places, with a flag beside each that says whether it is still in the round:
 //
-//     let still = boards::waiting(boards, count);      who answers 7Eh/R
-//     let heard = boards::listen(boards, still);       64 bits later: the identity that won, and its bearers
-//     let after = boards::offer(boards, heard.still, byte);
+//     let still = boards::waiting(&boards, count);      who answers 7Eh/R
+//     let heard = boards::listen(&boards, &still);      64 bits later: the identity that won, and its bearers
+//     let after = boards::offer(&boards, &heard.still, byte);
 #![tactic(auto)]
 
-ghost use Rattle.std.specs.Prelude.{◌≡◌, ◌<◌, map, length};
-ghost use Rattle.boards.specs.Wire.{board_of, wire_bit, stay_in, hear, takes, after_byte, waiting_first, anyone};
+ghost use Rattle.std.specs.Prelude.{◌≡◌, ◌<◌};
+ghost use Rattle.boards.specs.Wire.{wire_bit, sent, stay_in, hear, takes, after_byte, waiting_first, anyone};
+
+use std::array;
 
 // A board: its identity (48-bit Provisioned ID, BCR, DCR, highest bit first), and its address, 0 for none.
-#[derive(Clone, Copy)]
+#[derive(Clone, Copy, Debug, PartialEq, Eq)]
 pub struct Board {
     pub identity: u64,
     pub address: u8,
 }
 
+impl Board {
+    // What it sends as bit k.
+    fn sent(&self, k: u64) -> u64
+        requires { k < 64 }
+        ensures { result ≡ sent k self.now }
+    {
+        (self.identity >> k) % 2
+    }
+
+    // What it does with the address byte that it sees: it takes the address if it is still in and the byte's ones are odd.
+    fn take(self, byte: u8, still: bool) -> Board
+        ensures { result ≡ takes byte still self }
+    {
+        if still & parity::odd_ones(byte) {
+            Board {
+                address: byte / 2,
+                ..self
+            }
+        } else {
+            self
+        }
+    }
+}
+
 // What a round hears, and who is still in at its end.
-#[derive(Clone, Copy)]
+#[derive(Clone, Copy, Debug, PartialEq, Eq)]
 pub struct Heard {
     pub identity: u64,
     pub still: [bool; 32],
 }
 
 // Who is in a round: of the first `count` boards those without an address.
-pub fn waiting(boards: [Board; 32], count: usize) -> [bool; 32]
-    ensures { result ≡ waiting_first count boards }
+pub fn waiting(boards: &[Board; 32], count: usize) -> [bool; 32]
+    ensures { result ≡ waiting_first count boards.now }
 {
-    let mut still = [false; 32];
-    let mut i: usize = 0;
-    while i < 32 {
-        let b = boards[i];
-        still[i] = (i < count) & (b.address == 0);
-        i += 1;
-    }
-    still
+    array::from_fn(|i| (i < count) & (boards[i].address == 0))
 }
 
 // Whether any board is in.
-pub fn anyone(still: [bool; 32]) -> bool
-    ensures { result ≡ anyone still }
+pub fn anyone(still: &[bool; 32]) -> bool
+    ensures { result ≡ anyone still.now }
 {
-    let mut i: usize = 0;
-    while i < 32 {
-        if still[i] {
-            return true;
-        }
-        i += 1;
-    }
-    false
+    still.iter().any(|still| *still)
 }
 
-// The identities of the boards.
-fn identities(boards: [Board; 32]) -> [u64; 32]
-    ensures { result ≡ map (λ b. b.identity) boards }
+// Bit k on the wire: 0 if any board still in sends 0.
+fn wire_bit(k: u64, boards: &[Board; 32], still: &[bool; 32]) -> u64
+    requires { k < 64 }
+    ensures { result ≡ wire_bit k boards.now still.now }
 {
-    let mut sent = [0u64; 32];
-    let mut i: usize = 0;
-    while i < 32 {
-        let b = boards[i];
-        sent[i] = b.identity;
-        i += 1;
-    }
-    sent
+    let pulled = boards
+        .iter()
+        .zip(still)
+        .any(|(board, still)| *still & (board.sent(k) == 0));
+    u64::from(!pulled)
 }
 
-// Bit k on the wire: 0 if any board still in sends 0. The lengths are the types' own, but behind a reference the proof has to be told.
-fn wire_bit(k: u64, sent: &[u64; 32], still: &[bool; 32]) -> u64
-    requires { (k < 64) × (length sent.now ≡ 32) × (length still.now ≡ 32) }
-    ensures { result ≡ wire_bit k (map board_of sent.now) still.now }
+// At a 0 those that sent 1 leave. (A store to those alone takes fewer instructions than a new array of flags.)
+fn stay_in(k: u64, boards: &[Board; 32], kept: &mut [bool; 32])
+    requires { k < 64 }
+    ensures { kept.new ≡ stay_in k 0 boards.now kept.old }
 {
-    let mut i: usize = 0;
-    while i < 32 {
-        if still[i] & ((sent[i] >> k) % 2 == 0) {
-            return 0;
-        }
-        i += 1;
-    }
-    1
-}
-
-// At a 0 those that sent 1 leave.
-fn stay_in(k: u64, sent: &[u64; 32], kept: &mut [bool; 32])
-    requires { (k < 64) × (length sent.now ≡ 32) × (length kept.old ≡ 32) }
-    ensures { kept.new ≡ stay_in k 0 (map board_of sent.now) kept.old }
-{
-    let mut i: usize = 0;
-    while i < 32 {
-        if (sent[i] >> k) % 2 == 1 {
+    for (i, board) in boards.iter().enumerate() {
+        if board.sent(k) == 1 {
             kept[i] = false;
         }
-        i += 1;
     }
 }
 
 // The 64 bits of a round, highest first: all boards that are in send at once, and those that lose leave.
-pub fn listen(boards: [Board; 32], still: [bool; 32]) -> Heard
-    ensures { result ≡ hear 64 boards still 0 }
+pub fn listen(boards: &[Board; 32], still: &[bool; 32]) -> Heard
+    ensures { result ≡ hear 64 boards.now still.now 0 }
 {
-    let sent = identities(boards);
-    let mut kept = still;
-    let mut heard: u64 = 0;
-    let mut k: u64 = 64;
-    while 0 < k {
-        k -= 1;
-        let seen = wire_bit(k, &sent, &kept);
+    let mut identity = 0;
+    let mut kept = *still;
+    for k in (0..64).rev() {
+        let seen = wire_bit(k, boards, &kept);
         if seen == 0 {
-            stay_in(k, &sent, &mut kept);
+            stay_in(k, boards, &mut kept);
         }
-        heard = heard * 2 + seen;
+        identity = identity * 2 + seen;
     }
     Heard {
-        identity: heard,
+        identity,
         still: kept,
     }
 }
 
-// What a board does with the address byte that it sees: it takes the address if it is still in and the byte's ones are odd.
-fn take(byte: u8, still: bool, b: Board) -> Board
-    ensures { result ≡ takes byte still b }
-{
-    if still & parity::odd_ones(byte) {
-        Board {
-            identity: b.identity,
-            address: byte / 2,
-        }
-    } else {
-        b
-    }
-}
-
 // All boards see the same address byte.
-pub fn offer(boards: [Board; 32], still: [bool; 32], byte: u8) -> [Board; 32]
-    ensures { result ≡ after_byte byte still boards }
+pub fn offer(boards: &[Board; 32], still: &[bool; 32], byte: u8) -> [Board; 32]
+    ensures { result ≡ after_byte byte still.now boards.now }
 {
-    let mut after = boards;
-    let mut i: usize = 0;
-    while i < 32 {
-        after[i] = take(byte, still[i], after[i]);
-        i += 1;
-    }
-    after
+    array::from_fn(|i| boards[i].take(byte, still[i]))
 }

@@ -1,6 +1,7 @@
 -- `bench::run` meets its contract: a run on the wire is kept by the plain rule.
 use Rattle.bench.proofs.Given.{first_wide}
-use Rattle.bench.proofs.Benched.{allowed, run_refused, run_long, run_short, run_played}
+use Rattle.bench.proofs.Benched.{allowed, run_refused, run_short, run_played}
+use Rattle.bench.proofs.Keeping.{kept_inside}
 use Rattle.bench.proofs.run.Goals as goal
 
 pub returns-then-refusal-ne0 : goal.returns-then-refusal-ne0
@@ -9,24 +10,20 @@ returns-then-refusal-ne0 c =
     let t = run_refused a.machine a.boards a.count a.flips.now a.cells.now c.run_refusal-refusal.ensures c.if-refusal-ne0.true in
     record { value = t.0; cells_after = t.1 }
 
-pub play-played-requires : goal.play-played-requires
-play-played-requires c =
+pub play-at-requires : goal.play-at-requires
+play-at-requires c =
     let a = c.args in
     (allowed a.machine _ a.count a.flips.now _ c.run_refusal-refusal.ensures c.if-refusal-ne0.false).few
 
-pub slice_bounds-clocks-end-2 : goal.slice_bounds-clocks-end-2
-slice_bounds-clocks-end-2 c =
-    let a = c.args in
-    let wide = first_wide a.count a.boards _ c.well_formed.1.0.1.1 in
-    run_long a.machine a.boards a.count a.flips.now a.cells.now c.run_refusal-refusal.ensures c.if-refusal-ne0.false wide
-    c.play-played.ensures
+pub slice_bounds-clocks-end : goal.slice_bounds-clocks-end
+slice_bounds-clocks-end c = kept_inside c.play-at.ensures
 
 pub clocks-clocks-requires : goal.clocks-clocks-requires
 clocks-clocks-requires c =
     let a = c.args in
     let wide = first_wide a.count a.boards _ c.well_formed.1.0.1.1 in
     run_short a.machine a.boards a.count a.flips.now a.cells.now c.run_refusal-refusal.ensures c.if-refusal-ne0.false wide
-    c.play-played.ensures
+    c.play-at.ensures
 
 pub returns : goal.returns
 returns c =
@@ -34,6 +31,6 @@ returns c =
     let wide = first_wide a.count a.boards _ c.well_formed.1.0.1.1 in
     let t =
     run_played a.machine a.boards a.count a.flips.now a.cells.now c.run_refusal-refusal.ensures c.if-refusal-ne0.false wide
-    c.play-played.ensures c.clocks-clocks.ensures
+    c.play-at.ensures c.clocks-clocks.ensures
     in
     record { value = t.0; cells_after = t.1 }

@@ -1,16 +1,16 @@
--- `boards::wire_bit` meets its contract: a search among the boards.
-use native.Mathlib.Omega.{arith}
-use Rattle.boards.proofs.Turns.{zero_start, zero_turn, zero_found, zero_ended}
+-- `boards::wire_bit` meets its contract.
+use borrow.Author.Tests.{tests}
+use Rattle.std.proofs.Common.{rules}
+use Rattle.std.proofs.lemmas.Iterator.{YieldsList-from_slice, YieldsList-from_zip}
+use Rattle.std.proofs.lemmas.Iterator.Search.{any_from_yields_List}
+use Rattle.boards.specs.Wire.{sends_zero}
+use Rattle.boards.proofs.Turns.{pulled}
 use Rattle.boards.proofs.wire_bit.Goals as goal
 
-pub loop-i-init : goal.loop-i-init
-loop-i-init c = zero_start (omega arith) (omega arith)
-
-pub returns-then-still-i : goal.returns-then-still-i
-returns-then-still-i c = zero_found c.loop-i.invariant (omega arith) _ _ c.if-still-i.true
-
-pub loop-i-preserved : goal.loop-i-preserved
-loop-i-preserved c = zero_turn c.loop-i.invariant (omega arith) _ _ c.if-still-i.false
-
 pub returns : goal.returns
-returns c = zero_ended c.loop-i.invariant (omega arith)
+returns c =
+    let a = c.args in
+    let pairs = YieldsList-from_zip {s = c.zip.result} (YieldsList-from_slice a.boards.now (cc)) (YieldsList-from_slice a.still.now (cc)) in
+    pulled a.k a.boards.now a.still.now _ _
+    (any_from_yields_List (λ p. sends_zero a.k p.0 p.1) c.any-pulled.new.self _ _ c.any-pulled.ensures.ran pairs (λ x b q k. search (rules, tests)))
+    c.from.ensures

@@ -12,35 +12,35 @@ pub shape_of-cells-then-is_idle : goal.shape_of-cells-then-is_idle
 shape_of-cells-then-is_idle c =
     let a = c.args in
     let long : length a.boards ≡ 32 = search rules in
-    played_long a.machine a.boards c.requires long c.opened-p.ensures c.loop-i.invariant
+    played_long a.machine a.boards c.requires long c.opened-run.ensures c.loop-i.invariant
 
 pub returns-then-is_idle : goal.returns-then-is_idle
 returns-then-is_idle c =
     let a = c.args in
     let long : length a.boards ≡ 32 = search rules in
-    played_idle a.machine a.boards c.requires long c.opened-p.ensures c.loop-i.invariant
+    played_idle a.machine a.boards c.requires long c.opened-run.ensures c.loop-i.invariant
     c.loop-i-test.true c.is_idle.ensures c.if-is_idle.true
 
-pub round-next-requires : goal.round-next-requires
-round-next-requires c =
+pub round-run-requires : goal.round-run-requires
+round-run-requires c =
     let a = c.args in
     let long : length a.boards ≡ 32 = search rules in
-    may_play a.machine a.boards c.requires long c.opened-p.ensures c.loop-i.invariant
+    may_play a.machine a.boards c.requires long c.opened-run.ensures c.loop-i.invariant
     c.loop-i-test.true
 
 pub loop-i-preserved : goal.loop-i-preserved
 loop-i-preserved c =
-    playing_turn c.loop-i.invariant c.loop-i-test.true c.is_idle.ensures c.if-is_idle.false c.flip_at-flip.ensures
-    c.round-next.ensures
+    playing_turn c.loop-i.invariant c.loop-i-test.true c.is_idle.ensures c.if-is_idle.false c.flip_at.ensures
+    c.round-run.ensures
 
 pub shape_of-cells : goal.shape_of-cells
 shape_of-cells c =
     let a = c.args in
     let long : length a.boards ≡ 32 = search rules in
-    played_long a.machine a.boards c.requires long c.opened-p.ensures c.loop-i.invariant
+    played_long a.machine a.boards c.requires long c.opened-run.ensures c.loop-i.invariant
 
 pub returns : goal.returns
 returns c =
     let a = c.args in
     let long : length a.boards ≡ 32 = search rules in
-    played_all a.machine a.boards c.requires long c.opened-p.ensures c.loop-i.invariant c.loop-i-test.false
+    played_all a.machine a.boards c.requires long c.opened-run.ensures c.loop-i.invariant c.loop-i-test.false
