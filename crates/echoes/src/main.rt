@@ -4,19 +4,14 @@
 // The script comes from standard input; its head says what a line can be.
 #![tactic(auto)]
 
-mod came;
 mod desk;
 mod reads;
-mod same;
-mod script;
 mod shapes;
 mod writes;
 
+use desk::Desk;
 use std::io;
 
 fn main(rt: HostRuntime) -> io::Result<()> {
-    let mut out = io::writer(&rt);
-    let mut text = [0u8; lines::text::ROOM];
-    let n = lines::text::read(&mut rt.reader(), &mut out, &mut text)?;
-    script::play(&mut out, &text[..n])
+    lines::stage::play::<Desk>(&mut rt.reader(), &mut io::writer(&rt))
 }

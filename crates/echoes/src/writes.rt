@@ -1,71 +1,63 @@
 // The writer, as a line of the script calls it.
-use crate::came::Came;
 use crate::desk::Desk;
-use crate::same;
+use lines::came::{Came, Flaw};
 use lines::cells::{BLANK_CELL, blank_from};
+use lines::list::List;
 use lines::numbers::{Numbers, at_most, byte};
 use readings::{Command, Joining, Reading};
-use writer::Written;
 
 // The writer's answer to a reading with the first `span` bytes, lent the first `lent` cells.
 fn write_part(
-    reading: Reading,
-    bytes: &[u8; 1000],
+    reading: &Reading,
+    bytes: &[u8],
     span: usize,
     cells: &mut [u16],
     lent: usize,
-) -> Written {
-    let all = &bytes[..];
-    let many = at_most(span, all.len());
+) -> Result<usize, u8> {
+    let many = at_most(span, bytes.len());
     let n = at_most(lent, cells.len());
-    writer::write(reading, &all[0..many], &mut cells[0..n])
+    let written = writer::write(*reading, &bytes[..many], &mut cells[..n]);
+    if written.refusal == 0 {
+        Ok(written.count)
+    } else {
+        Err(written.refusal)
+    }
 }
 
-// Whether the writer, handed a reading and the very bytes of which the reader was lent `room`, gives the record that was read, and leaves the cells
-// behind it blank.
-pub fn echoes(
-    reading: Reading,
-    bytes: &[u8; 1000],
-    room: usize,
-    cells: &[u16; 1100],
-    length: usize,
-) -> bool {
+// Whether the writer, handed a reading and the very bytes that the reader was lent, gives the record that was read, and leaves the cells behind it
+// blank.
+pub fn echoes(desk: &Desk, reading: &Reading) -> bool {
+    let record = desk.record.as_slice();
     let mut out = [BLANK_CELL; 1100];
-    let written = write_part(reading, bytes, room, &mut out, 1100);
-    (written.refusal == 0)
-        & (written.count == length)
-        & (written.place == 0)
-        & same::cells(&out, cells, length)
-        & blank_from(&out, length)
+    write_part(reading, &desk.bytes, desk.room, &mut out, 1100) == Ok(record.len())
+        && out.starts_with(record)
+        && blank_from(&out, record.len(), &BLANK_CELL)
 }
 
 // `write`. Refusal, count and place. What was written is then the record, if it was not refused.
-pub fn write(desk: Desk, given: Numbers) -> Came {
-    let bytes = desk.bytes;
+pub fn write(desk: &mut Desk, given: &Numbers) -> Came {
     let mut cells = [BLANK_CELL; 1100];
-    let written = write_part(reading_of(given), &bytes, desk.span, &mut cells, desk.lent);
-    let count = written.count;
-    let numbers = Numbers::one(written.refusal as u64)
-        .with(count as u64)
-        .with(written.place as u64);
+    let written = write_part(
+        &reading_of(given),
+        &desk.bytes,
+        desk.span,
+        &mut cells,
+        desk.lent,
+    );
+    let count = written.unwrap_or(0);
+    if written.is_ok() {
+        desk.record = List::first(cells, count);
+    }
     Came {
-        desk: after(desk, written.refusal, cells, count),
-        numbers,
-        untouched: blank_from(&cells, count),
-        echoed: true,
+        numbers: Numbers::one(written.err().unwrap_or(0).into())
+            .with(count as u64)
+            .with(0),
+        flaw: (!blank_from(&cells, count, &BLANK_CELL)).then_some(Flaw::Touched),
     }
-}
-
-// The desk after the writer has answered with this refusal and these cells.
-fn after(desk: Desk, refusal: u8, cells: [u16; 1100], count: usize) -> Desk {
-    if refusal != 0 {
-        return desk;
-    }
-    desk.with_cells(cells).with_length(count)
 }
 
 // The reading of a line: joining, command, header, new address, direct, last, offers.
-fn reading_of(given: Numbers) -> Reading {
+fn reading_of(given: &Numbers) -> Reading {
     Reading {
         joining: joining_of(given.at(0)),
         command: command_of(given.at(1)),

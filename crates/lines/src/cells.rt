@@ -1,16 +1,9 @@
-// The cells that a call is lent.
+// The cells, or bytes, that a call is lent.
 
 // What every cell is before a call.
-pub const BLANK_CELL: u16 = 65535;
+pub const BLANK_CELL: u16 = u16::MAX;
 
-// Whether the cells from a place on are blank.
-pub fn blank_from(cells: &[u16], first: usize) -> bool {
-    let mut i = first;
-    while i < cells.len() {
-        if cells[i] != BLANK_CELL {
-            return false;
-        }
-        i += 1;
-    }
-    true
+// Whether the places from one on are as they were filled.
+pub fn blank_from<T: PartialEq>(places: &[T], first: usize, blank: &T) -> bool {
+    places.iter().skip(first).all(|place| place == blank)
 }

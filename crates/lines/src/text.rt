@@ -1,6 +1,7 @@
 // The text of a script, and where its lines end.
-ghost use Rattle.std.specs.Prelude.{◌≡◌, ◌≤◌, length, take, IfOk, IfSome};
+ghost use Rattle.std.specs.Prelude.{◌≡◌, ◌≤◌, ◌-◌, length, take, IfOk, IfSome};
 ghost use Rattle.std.specs.Io.{ReadsAtMost};
+ghost use Rattle.std.specs.Iterator.{at_most};
 
 use std::io;
 use std::io::{Read, Write};
@@ -27,12 +28,39 @@ pub fn read<R: Read>(input: &mut R, out: &mut impl Write, text: &mut [u8]) -> io
 pub fn line_end(text: &[u8], from: usize) -> usize
     ensures { (result ≤ length text.now) × (from ≤ length text.now → from ≤ result) }
 {
-    let mut i = from;
-    while i < text.len() {
-        if text[i] == b'\n' {
-            return i;
-        }
-        i += 1;
+    let start = from.min(text.len());
+    match text[start..].iter().position(|byte| *byte == b'\n') {
+        Some(n) => start + n,
+        None => text.len(),
     }
-    text.len()
+}
+
+// The lines of a text, one after the other: the text, and where the next one begins.
+#[derive(Drop)]
+pub struct Lines<'a> {
+    text: &'a [u8],
+    from: usize,
+}
+
+impl<'a> Lines<'a> {
+    // All of them.
+    pub fn new(text: &'a [u8]) -> Lines<'a> {
+        Lines { text, from: 0 }
+    }
+}
+
+impl<'a> Iterator for Lines<'a> {
+    type Item = &'a [u8];
+
+    ghost remaining = { λ s. at_most (length s.text.now - s.from) };
+
+    fn next(&mut self) -> Option<&'a [u8]> {
+        let from = self.from;
+        if self.text.len() <= from {
+            return None;
+        }
+        let to = line_end(self.text, from);
+        self.from = to + 1;
+        Some(&self.text[from..to])
+    }
 }

@@ -1,80 +1,72 @@
 // A line of the script, taken apart into words.
 use crate::numbers;
-use crate::numbers::{Numbers, Reading};
+use crate::numbers::Numbers;
 
-// A line: the first letter of its first word, 0 if it has none; the numbers before the sign `=`, and those behind it. It is right if each of its
-// other words is a number, and there is no second sign.
-#[derive(Clone, Copy)]
+// A line: the first letter of its first word, if it has one; the numbers before the sign `=`, and those behind it, if it has the sign. It is right if
+// each of its other words is a number, and there is no second sign.
+#[derive(Debug, PartialEq, Eq, Drop)]
 pub struct Line {
-    pub letter: u8,
+    pub letter: Option<u8>,
     pub given: Numbers,
-    pub said: Numbers,
-    pub behind: bool,
+    pub said: Option<Numbers>,
     pub right: bool,
 }
 
 // The line that a text is. A `#` and what follows it is no part of it.
 pub fn read(text: &[u8]) -> Line {
-    let mut line = begun(0);
-    let mut from: usize = 0;
-    let mut i: usize = 0;
-    while i < text.len() {
-        if text[i] == b'#' {
-            return with_word(line, &text[from..i]);
+    let end = text
+        .iter()
+        .position(|byte| *byte == b'#')
+        .unwrap_or(text.len());
+    let mut line = Line::begun(None);
+    for word in text[..end].split(|byte| *byte == b' ') {
+        line.add(word);
+    }
+    line
+}
+
+impl Line {
+    // A line of which only the letter is there.
+    fn begun(letter: Option<u8>) -> Line {
+        Line {
+            letter,
+            given: Numbers::none(),
+            said: None,
+            right: true,
         }
-        if text[i] == b' ' {
-            let next = with_word(line, &text[from..i]);
-            line = next;
-            from = i + 1;
+    }
+
+    // One word more. Between two blanks there is none.
+    fn add(&mut self, word: &[u8]) {
+        match word.first() {
+            None => {}
+            Some(first) if self.letter.is_none() => self.add_letter(*first),
+            Some(b'=') => self.add_sign(),
+            Some(_) => self.add_number(numbers::read(word)),
         }
-        i += 1;
     }
-    with_word(line, &text[from..])
-}
 
-// A line of which only the letter is there.
-fn begun(letter: u8) -> Line {
-    Line {
-        letter,
-        given: Numbers::new(),
-        said: Numbers::new(),
-        behind: false,
-        right: true,
+    // The first letter. A zero byte is none.
+    fn add_letter(&mut self, letter: u8) {
+        if letter != 0 {
+            self.letter = Some(letter);
+        }
     }
-}
 
-// The line with one word more. Between two blanks there is none.
-fn with_word(line: Line, word: &[u8]) -> Line {
-    if word.len() == 0 {
-        return line;
+    // The sign behind what there is.
+    fn add_sign(&mut self) {
+        match self.said {
+            None => self.said = Some(Numbers::none()),
+            Some(_) => self.right = false,
+        }
     }
-    if line.letter == 0 {
-        return begun(word[0]);
-    }
-    if word[0] == b'=' {
-        return with_sign(line);
-    }
-    with_number(line, numbers::read(word))
-}
 
-// The line with the sign behind what it has.
-fn with_sign(line: Line) -> Line {
-    let mut next = line;
-    next.behind = true;
-    next.right = line.right & !line.behind;
-    next
-}
-
-// The line with one number more, before the sign or behind it.
-fn with_number(line: Line, read: Reading) -> Line {
-    let mut next = line;
-    if line.behind {
-        let said = line.said.with(read.value);
-        next.said = said;
-    } else {
-        let given = line.given.with(read.value);
-        next.given = given;
+    // One number more, before the sign or behind it.
+    fn add_number(&mut self, number: Option<u64>) {
+        match (number, &mut self.said) {
+            (None, _) => self.right = false,
+            (Some(number), None) => self.given.push(number),
+            (Some(number), Some(said)) => said.push(number),
+        }
     }
-    next.right = line.right & read.right;
-    next
 }

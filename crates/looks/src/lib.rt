@@ -9,10 +9,11 @@ use machine::{Machine, Moment};
 use rows::Row;
 
 // The moment's number, and what is remembered: choice, address asked, address wanted, identity, address offered, refusals in succession.
-pub fn moment(m: Machine) -> Numbers {
-    let moment = m.moment;
-    let first = Numbers::one(number_of(moment));
-    with_offer(with_choice(first, m), m)
+pub fn moment(m: &Machine) -> Numbers {
+    Numbers::one(number_of(m.moment))
+        .with_all(&[m.choice, m.asked, m.wanted])
+        .with(m.identity)
+        .with_all(&[m.offered, m.refusals])
 }
 
 // The number of a moment.
@@ -27,51 +28,26 @@ pub fn number_of(moment: Moment) -> u64 {
     }
 }
 
-// What was begun goes behind the numbers.
-fn with_choice(numbers: Numbers, m: Machine) -> Numbers {
-    numbers
-        .with(m.choice as u64)
-        .with(m.asked as u64)
-        .with(m.wanted as u64)
-}
-
-// What is offered goes behind the numbers.
-fn with_offer(numbers: Numbers, m: Machine) -> Numbers {
-    numbers
-        .with(m.identity)
-        .with(m.offered as u64)
-        .with(m.refusals as u64)
-}
-
 // Flags and last ticket.
-pub fn facts(m: Machine) -> Numbers {
-    let f = m.facts;
-    Numbers::one(f.flags as u64).with(f.last as u64)
+pub fn facts(m: &Machine) -> Numbers {
+    Numbers::one(m.facts.flags.into()).with(m.facts.last.into())
 }
 
 // The sixteen bytes of the legacy set.
-pub fn devices(m: Machine) -> Numbers {
-    let f = m.facts;
-    let legacy = f.legacy;
-    Numbers::new().with_bytes(&legacy)
+pub fn devices(m: &Machine) -> Numbers {
+    Numbers::none().with_all(&m.facts.legacy)
 }
 
 // What stands at a place of the table; nothing behind its 32 places.
-pub fn place(m: Machine, place: usize) -> Numbers {
-    let rows = m.rows;
-    if place < 32 {
-        let here = rows[place];
-        row(here)
-    } else {
-        Numbers::new()
-    }
+pub fn place(m: &Machine, place: usize) -> Numbers {
+    m.rows.get(place).map_or(Numbers::none(), row)
 }
 
 // A row: address, ticket, mark "identity unknown", identity, static address.
-fn row(r: Row) -> Numbers {
-    Numbers::one(r.address as u64)
-        .with(r.ticket as u64)
-        .with_mark(r.unknown)
+fn row(r: &Row) -> Numbers {
+    Numbers::one(r.address.into())
+        .with(r.ticket.into())
+        .with(r.unknown.into())
         .with(r.identity)
-        .with(r.from_static as u64)
+        .with(r.from_static.into())
 }

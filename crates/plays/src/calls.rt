@@ -1,123 +1,131 @@
 // The machine's calls, as a line of the script makes them.
-ghost use Rattle.std.specs.Prelude.{◌≤◌};
-
-use crate::came;
-use crate::came::Came;
-use lines::cells::BLANK_CELL;
-use lines::numbers::{Numbers, at_most, byte, bytes_from, place, ticket};
+use crate::shapes;
+use lines::came::{Came, Flaw};
+use lines::cells::{BLANK_CELL, blank_from};
+use lines::numbers::{Numbers, at_most, byte, place, ticket};
+use lines::shapes::Shape;
+use lines::stage::Stage;
+use looks::{by_hand, same};
 use machine::{Machine, Stepped};
 
-// What a line with a small letter comes to.
-pub fn play(m: Machine, letter: u8, given: Numbers, lent: usize) -> Came {
-    let number = given.at(0);
-    match letter {
-        b's' => start(given),
-        b'b' => begin(m, given, lent),
-        b'h' => answer(m, true, lent),
-        b'n' => answer(m, false, lent),
-        b'i' => identity(m, given, lent),
-        b'u' => give_up(m, lent),
-        b'j' => join(m, byte(number), lent),
-        b'r' => retire(m, ticket(number)),
-        b'q' => ask(m, ticket(number)),
-        b'c' => cards(m, number, given.at(1)),
-        b't' => came::seen(m, looks::place(m, place(number))),
-        b'd' => came::seen(m, looks::devices(m)),
-        b'm' => came::seen(m, looks::moment(m)),
-        _ => came::seen(m, looks::facts(m)),
+// The machine, and how many cells its calls are lent.
+#[derive(Drop)]
+pub struct Bus {
+    machine: Machine,
+    lent: usize,
+}
+
+impl Stage for Bus {
+    // The machine of a refused start, and 12 cells lent.
+    fn begun() -> Bus {
+        Bus {
+            machine: machine::start(0, &[0], 0).machine,
+            lent: 12,
+        }
+    }
+
+    fn shape(letter: u8) -> Option<Shape> {
+        shapes::shape(letter)
+    }
+
+    fn play(&mut self, letter: u8, given: &Numbers) -> Option<Came> {
+        match letter {
+            b'l' => self.lent = place(given.at(0)),
+            b'A'..=b'Z' => by_hand::change(&mut self.machine, letter, given),
+            _ => return Some(self.step(letter, given)),
+        }
+        None
     }
 }
 
-// ---- the calls
-
-// How many numbers there are from a place on.
-fn count_from(numbers: Numbers, first: usize) -> usize
-    ensures { result ≤ 24 }
-{
-    let count = numbers.count;
-    if count < first {
-        return 0;
+impl Bus {
+    // What a call or a look comes to, by its letter.
+    fn step(&mut self, letter: u8, given: &Numbers) -> Came {
+        let number = given.at(0);
+        match letter {
+            b's' => self.start(given),
+            b'b' => self.begin(given),
+            b'h' => self.call(|m, cells| m.answer(true, cells)),
+            b'n' => self.call(|m, cells| m.answer(false, cells)),
+            b'i' => self.identity(given),
+            b'u' => self.call(|m, cells| m.give_up(cells)),
+            b'j' => self.call(|m, cells| m.join(byte(number), cells)),
+            b'r' => self.call(|m, _cells| m.retire(ticket(number))),
+            b'q' => self.ask(ticket(number)),
+            b'c' => self.cards(number, given.at(1)),
+            b't' => Came::seen(looks::place(&self.machine, place(number))),
+            b'd' => Came::seen(looks::devices(&self.machine)),
+            b'm' => Came::seen(looks::moment(&self.machine)),
+            _ => Came::seen(looks::facts(&self.machine)),
+        }
     }
-    if 24 < count - first {
-        24
+
+    // What a call comes to that may write cells: it is lent the first of twelve blank ones. If it is refused, it has to hand the machine back as it was.
+    fn call<F: FnOnce(Machine, &mut [u16]) -> Stepped>(&mut self, call: F) -> Came
+        requires { F.IsAlwaysCallable call }
+    {
+        let before = self.machine;
+        let mut cells = [BLANK_CELL; 12];
+        let done = call(before, &mut cells[..at_most(self.lent, 12)]);
+        self.machine = done.machine;
+        Came {
+            numbers: Numbers::one(done.refusal.into()).with_all(&cells[..at_most(done.count, 12)]),
+            flaw: flaw_of(&before, &done, &cells),
+        }
+    }
+
+    // `start FLAGS LAST LEGACY..`. A refused one hands back a machine of its own, so that it is compared with none.
+    fn start(&mut self, given: &Numbers) -> Came {
+        let legacy = given.bytes_from(2);
+        let done = machine::start(byte(given.at(0)), legacy.as_slice(), ticket(given.at(1)));
+        self.machine = done.machine;
+        Came::seen(Numbers::one(done.refusal.into()))
+    }
+
+    // `begin CHOICE STATIC NEW TICKET`.
+    fn begin(&mut self, given: &Numbers) -> Came {
+        let choice = byte(given.at(0));
+        let from = byte(given.at(1));
+        let new = byte(given.at(2));
+        let ticket = ticket(given.at(3));
+        self.call(|m, cells| m.begin(choice, from, new, ticket, cells))
+    }
+
+    // `identity BYTES..`.
+    fn identity(&mut self, given: &Numbers) -> Came {
+        let bytes = given.bytes_from(0);
+        self.call(|m, cells| m.identity(bytes.as_slice(), cells))
+    }
+
+    // `query TICKET`.
+    fn ask(&mut self, ticket: u32) -> Came {
+        let asked = self.machine.ask(ticket);
+        Came::seen(Numbers::one(asked.refusal.into()).with(asked.address.into()))
+    }
+
+    // `cards FIRST LAST`. It comes to the last refusal of any call, 0 if there was none.
+    fn cards(&mut self, first: u64, last: u64) -> Came {
+        let mut refusal = 0;
+        for identity in first..=last {
+            let done = card(self.machine, identity);
+            self.machine = done.machine;
+            if done.refusal != 0 {
+                refusal = done.refusal;
+            }
+        }
+        Came::seen(Numbers::one(refusal.into()))
+    }
+}
+
+// What is wrong with a call that was given this machine, and blank cells, which are now these.
+fn flaw_of(before: &Machine, done: &Stepped, cells: &[u16]) -> Option<Flaw> {
+    if !blank_from(cells, done.count, &BLANK_CELL) {
+        Some(Flaw::WroteBehind)
+    } else if done.refusal != 0 && !same::machine(before, &done.machine) {
+        Some(Flaw::MachineChanged)
     } else {
-        count - first
+        None
     }
-}
-
-// `start FLAGS LAST LEGACY..`. A refused one hands back a machine of its own, so that it is compared with none.
-fn start(given: Numbers) -> Came {
-    let legacy = bytes_from(given, 2);
-    let n = count_from(given, 2);
-    let done = machine::start(byte(given.at(0)), &legacy[0..n], ticket(given.at(1)));
-    let machine = done.machine;
-    came::stepped(machine, done, [BLANK_CELL; 12])
-}
-
-// `begin CHOICE STATIC NEW TICKET`.
-fn begin(m: Machine, given: Numbers, lent: usize) -> Came {
-    let mut cells = [BLANK_CELL; 12];
-    let n = at_most(lent, 12);
-    let choice = byte(given.at(0));
-    let from = byte(given.at(1));
-    let new = byte(given.at(2));
-    let ticket = ticket(given.at(3));
-    let done = m.begin(choice, from, new, ticket, &mut cells[0..n]);
-    came::stepped(m, done, cells)
-}
-
-// `heard` and `nobody`.
-fn answer(m: Machine, heard: bool, lent: usize) -> Came {
-    let mut cells = [BLANK_CELL; 12];
-    let n = at_most(lent, 12);
-    let done = m.answer(heard, &mut cells[0..n]);
-    came::stepped(m, done, cells)
-}
-
-// `identity BYTES..`.
-fn identity(m: Machine, given: Numbers, lent: usize) -> Came {
-    let bytes = bytes_from(given, 0);
-    let many = count_from(given, 0);
-    let mut cells = [BLANK_CELL; 12];
-    let n = at_most(lent, 12);
-    let done = m.identity(&bytes[0..many], &mut cells[0..n]);
-    came::stepped(m, done, cells)
-}
-
-// `up`.
-fn give_up(m: Machine, lent: usize) -> Came {
-    let mut cells = [BLANK_CELL; 12];
-    let n = at_most(lent, 12);
-    let done = m.give_up(&mut cells[0..n]);
-    came::stepped(m, done, cells)
-}
-
-// `join CHOICE`.
-fn join(m: Machine, choice: u8, lent: usize) -> Came {
-    let mut cells = [BLANK_CELL; 12];
-    let n = at_most(lent, 12);
-    let done = m.join(choice, &mut cells[0..n]);
-    came::stepped(m, done, cells)
-}
-
-// `retire TICKET`.
-fn retire(m: Machine, ticket: u32) -> Came {
-    let done = m.retire(ticket);
-    came::stepped(m, done, [BLANK_CELL; 12])
-}
-
-// `query TICKET`.
-fn ask(m: Machine, ticket: u32) -> Came {
-    let asked = m.ask(ticket);
-    let numbers = Numbers::one(asked.refusal as u64).with(asked.address as u64);
-    came::seen(m, numbers)
-}
-
-// ---- many boards
-
-// The eight bytes of an identity below 65,536.
-fn eight(identity: u64) -> [u8; 8] {
-    [0, 0, 0, 0, 0, 0, byte(identity / 256), byte(identity % 256)]
 }
 
 // One board at round: it is heard, its identity comes, and it accepts the offer. The first call that is refused ends it.
@@ -127,25 +135,9 @@ fn card(m: Machine, identity: u64) -> Stepped {
     if heard.refusal != 0 {
         return heard;
     }
-    let bytes = eight(identity);
-    let listened = heard.machine.identity(&bytes, &mut cells);
+    let listened = heard.machine.identity(&identity.to_be_bytes(), &mut cells);
     if listened.refusal != 0 {
         return listened;
     }
     listened.machine.answer(true, &mut cells)
-}
-
-// `cards FIRST LAST`. It comes to the last refusal of any call, 0 if there was none.
-fn cards(m: Machine, first: u64, last: u64) -> Came {
-    let mut machine = m;
-    let mut refusal: u8 = 0;
-    for identity in first..=last {
-        let done = card(machine, identity);
-        let next = done.machine;
-        machine = next;
-        if done.refusal != 0 {
-            refusal = done.refusal;
-        }
-    }
-    came::seen(machine, Numbers::one(refusal as u64))
 }

@@ -5,15 +5,11 @@
 #![tactic(auto)]
 
 mod calls;
-mod came;
-mod script;
 mod shapes;
 
+use calls::Bus;
 use std::io;
 
 fn main(rt: HostRuntime) -> io::Result<()> {
-    let mut out = io::writer(&rt);
-    let mut text = [0u8; lines::text::ROOM];
-    let n = lines::text::read(&mut rt.reader(), &mut out, &mut text)?;
-    script::play(&mut out, &text[..n])
+    lines::stage::play::<Bus>(&mut rt.reader(), &mut io::writer(&rt))
 }

@@ -2,70 +2,47 @@
 use crate::setup::Setup;
 use lines::numbers::{Numbers, at_most, size};
 
-// The cell at a place, 0 behind all of them.
-fn cell_at(setup: Setup, place: usize) -> u64 {
-    let cells = setup.cells;
-    if place < 1100 { cells[place] as u64 } else { 0 }
+// `cells PLACE CELLS..`. The place, and as many cells from there on as the line has, 0 behind all of them.
+pub fn cells(setup: &Setup, given: &Numbers) -> Numbers {
+    from_place(given, |place| {
+        setup.cells.get(place).map_or(0, |cell| u64::from(*cell))
+    })
 }
 
-// The address of the board at a place, 0 behind all of them.
-fn address_at(setup: Setup, place: usize) -> u64 {
-    let boards = setup.boards;
-    if place < 40 {
-        let b = boards[place];
-        b.address as u64
-    } else {
-        0
-    }
+// `holds PLACE ADDRESSES..`. The place, and as many boards' addresses from there on as the line has, 0 behind all of them.
+pub fn addresses(setup: &Setup, given: &Numbers) -> Numbers {
+    from_place(given, |place| {
+        setup
+            .boards
+            .get(place)
+            .map_or(0, |board| u64::from(board.address))
+    })
 }
 
-// `cells PLACE CELLS..` and `holds PLACE ADDRESSES..`. The place, and as many cells from there on, or addresses, as the line has.
-pub fn from_place(setup: Setup, given: Numbers, cells: bool) -> Numbers {
+// The place that a line has first, and what stands there and behind it, as much as the line has.
+fn from_place<F: Fn(usize) -> u64>(given: &Numbers, at: F) -> Numbers
+    requires { F.IsAlwaysCallable at }
+{
     let first = at_most(size(given.at(0)), 1100);
     let mut out = Numbers::one(given.at(0));
-    let mut i: usize = 1;
-    while i < 24 {
-        if i < given.count {
-            let place = first + (i - 1);
-            let next = out.with(if cells {
-                cell_at(setup, place)
-            } else {
-                address_at(setup, place)
-            });
-            out = next;
-        }
-        i += 1;
+    for more in 1..given.count {
+        out.push(at(first + (more - 1)));
     }
     out
 }
 
 // `offer PLACE IDENTITY CELL NEXT`. The place, and the eleven cells of the offer there, from its round header on.
-pub fn offer(setup: Setup, place: usize) -> Numbers {
+pub fn offer(setup: &Setup, place: usize) -> Numbers {
     let first = 4 + 11 * at_most(place, 92);
-    let mut out = Numbers::one(place as u64);
-    let mut i: usize = 0;
-    while i < 11 {
-        let next = out.with(cell_at(setup, first + i));
-        out = next;
-        i += 1;
-    }
-    out
+    Numbers::one(place as u64).with_all(&setup.cells[first..first + 11])
 }
 
-// The cell of an identity byte: the lowest one of this number.
-fn identity_cell(number: u64) -> u64 {
-    1024 + number % 256
-}
-
-// What it says: 506, the eight cells of the identity, the cell of the address and the one behind it.
-pub fn offered(given: Numbers) -> Numbers {
-    let identity = given.at(1);
+// What it says: 506, the eight cells of the identity, the cell of the address and the one behind it. The cell of an identity byte is the lowest one
+// of this number.
+pub fn offered(given: &Numbers) -> Numbers {
     let mut out = Numbers::one(given.at(0)).with(506);
-    let mut i: u64 = 0;
-    while i < 8 {
-        let next = out.with(identity_cell(identity >> (56 - 8 * i)));
-        out = next;
-        i += 1;
+    for byte in given.at(1).to_be_bytes() {
+        out.push(1024 + u64::from(byte));
     }
     out.with(given.at(2)).with(given.at(3))
 }

@@ -1,173 +1,121 @@
 // What a run is given, and the cells of the last one.
+use crate::{played, seen, shapes};
 use boards::Board;
 use lent::NO_BOARD;
+use lines::came::Came;
 use lines::cells::BLANK_CELL;
-use lines::numbers::{Numbers, at_most, byte, size};
+use lines::list::List;
+use lines::numbers::{Numbers, at_most, byte, place, size, ticket};
+use lines::shapes::Shape;
+use lines::stage::Stage;
+use lines::words::Line;
 use looks::by_hand;
 use machine::Machine;
 
-// The machine; 40 boards, of which a run is lent the first `count`; the flips, which are the first `many`; and how many of 1,100 cells it is
-// lent.
-#[derive(Clone, Copy)]
+// The machine; 40 boards, of which a run is lent the first `count`, a number that may be too high for them; the flips; and how many of 1,100 cells
+// it is lent.
+#[derive(Drop)]
 pub struct Setup {
     pub machine: Machine,
     pub boards: [Board; 40],
     pub count: usize,
-    pub flips: [u8; 100],
-    pub many: usize,
+    pub flips: List<u8, 100>,
     pub lent: usize,
     pub cells: [u16; 1100],
 }
 
-// The machine of a refused start, no boards and no flips, all cells lent, and each blank.
-pub fn new() -> Setup {
-    let none = [0u8; 1];
-    let machine = machine::start(0, &none, 0).machine;
-    Setup {
-        machine,
-        boards: [NO_BOARD; 40],
-        count: 0,
-        flips: [0; 100],
-        many: 0,
-        lent: 1100,
-        cells: [BLANK_CELL; 1100],
+impl Stage for Setup {
+    // The machine of a refused start, no boards and no flips, all cells lent, and each blank.
+    fn begun() -> Setup {
+        Setup {
+            machine: machine::start(0, &[0], 0).machine,
+            boards: [NO_BOARD; 40],
+            count: 0,
+            flips: List::new(0),
+            lent: 1100,
+            cells: [BLANK_CELL; 1100],
+        }
+    }
+
+    fn shape(letter: u8) -> Option<Shape> {
+        shapes::shape(letter)
+    }
+
+    fn play(&mut self, letter: u8, given: &Numbers) -> Option<Came> {
+        match letter {
+            b's' => Some(played::start(self, given)),
+            b'r' => Some(played::retire(self, ticket(given.at(0)))),
+            b'p' => Some(played::play(self)),
+            b'c' => Some(Came::seen(seen::cells(self, given))),
+            b'h' => Some(Came::seen(seen::addresses(self, given))),
+            b'o' => Some(Came::seen(seen::offer(self, place(given.at(0))))),
+            b't' => Some(Came::seen(looks::place(&self.machine, place(given.at(0))))),
+            b'f' => Some(Came::seen(looks::facts(&self.machine))),
+            _ => {
+                self.change(letter, given);
+                None
+            }
+        }
+    }
+
+    fn said(letter: u8, line: Line) -> Numbers {
+        shapes::said(letter, line)
     }
 }
 
 impl Setup {
-    // What the next run is given after a line that only changes this, by its letter: boards, more, wire, again, lent; Number, Board, and what is
-    // changed in the machine by hand.
-    pub fn changed(self, letter: u8, given: Numbers) -> Setup {
+    // What a line does that only changes what the next run is given, by its letter: boards, more, wire, again, lent; Number, Board, and what is changed
+    // in the machine by hand.
+    fn change(&mut self, letter: u8, given: &Numbers) {
         let number = size(given.at(0));
-        let machine = self.machine;
         match letter {
-            b'b' => more(self.with_boards([NO_BOARD; 40], 0), given),
-            b'm' => more(self, given),
-            b'w' => wire(self.with_many(0), given),
-            b'a' => again(self, number),
-            b'l' => self.with_lent(number),
-            b'N' => self.with_count(number),
-            b'B' => self.with_board(number, given.at(1), byte(given.at(2))),
-            _ => self.with_machine(by_hand::changed(machine, letter, given)),
+            b'b' => {
+                self.boards = [NO_BOARD; 40];
+                self.count = 0;
+                self.more(given);
+            }
+            b'm' => self.more(given),
+            b'w' => {
+                self.flips.clear();
+                self.wire(given);
+            }
+            b'a' => self.again(number),
+            b'l' => self.lent = number,
+            b'N' => self.count = number,
+            b'B' => self.put_board(number, given.at(1), byte(given.at(2))),
+            _ => by_hand::change(&mut self.machine, letter, given),
         }
     }
 
-    // With this machine.
-    pub fn with_machine(self, machine: Machine) -> Setup {
-        let mut next = self;
-        next.machine = machine;
-        next
-    }
-
-    // With these boards, of which so many are told.
-    pub fn with_boards(self, boards: [Board; 40], count: usize) -> Setup {
-        let mut next = self;
-        next.boards = boards;
-        next.count = count;
-        next
-    }
-
-    // With these cells.
-    pub fn with_cells(self, cells: [u16; 1100]) -> Setup {
-        let mut next = self;
-        next.cells = cells;
-        next
-    }
-
-    // With so many boards told.
-    fn with_count(self, count: usize) -> Setup {
-        let mut next = self;
-        next.count = count;
-        next
-    }
-
-    // With so many cells lent.
-    fn with_lent(self, lent: usize) -> Setup {
-        let mut next = self;
-        next.lent = lent;
-        next
-    }
-
-    // With so many flips.
-    fn with_many(self, many: usize) -> Setup {
-        let mut next = self;
-        next.many = many;
-        next
-    }
-
-    // With this board at a place, if there is such a place.
-    fn with_board(self, place: usize, identity: u64, address: u8) -> Setup {
-        let mut boards = self.boards;
-        if place < 40 {
-            boards[place] = Board { identity, address };
+    // This board goes to a place, if there is such a place.
+    fn put_board(&mut self, place: usize, identity: u64, address: u8) {
+        if let Some(board) = self.boards.get_mut(place) {
+            *board = Board { identity, address };
         }
-        self.with_boards(boards, self.count)
     }
 
-    // With one flip more, as long as there is a place.
-    fn with_flip(self, flip: u8) -> Setup {
-        let mut flips = self.flips;
-        let many = self.many;
-        if many < 100 {
-            flips[many] = flip;
-            let mut next = self.with_many(many + 1);
-            next.flips = flips;
-            return next;
+    // Boards of these identities go behind those that are told, each without an address.
+    fn more(&mut self, given: &Numbers) {
+        for identity in given.as_slice() {
+            self.put_board(self.count, *identity, 0);
+            self.count = at_most(self.count, 39) + 1;
         }
-        self
     }
 
-    // The flip so many places before the end, 0 if there is none.
-    fn flip_before(self, places: usize) -> u8 {
-        let flips = self.flips;
-        let many = self.many;
-        if many < places {
-            return 0;
+    // These flips go behind the others.
+    fn wire(&mut self, given: &Numbers) {
+        for flip in given.as_slice() {
+            self.flips.push(byte(*flip));
         }
-        let place = many - places;
-        if place < 100 { flips[place] } else { 0 }
     }
-}
 
-// With boards of these identities behind those that are told, each without an address.
-fn more(setup: Setup, given: Numbers) -> Setup {
-    let mut longer = setup;
-    let mut i: usize = 0;
-    while i < 24 {
-        if i < given.count {
-            let next = longer.with_board(longer.count, given.at(i), 0);
-            longer = next.with_count(at_most(next.count, 39) + 1);
+    // The flips over and over, so many in all.
+    fn again(&mut self, all: usize) {
+        let period = self.flips.count;
+        for _ in period..all {
+            let place = self.flips.count.saturating_sub(period);
+            let flip = self.flips.places.get(place).copied();
+            self.flips.push(flip.unwrap_or(0));
         }
-        i += 1;
     }
-    longer
-}
-
-// With these flips behind the others.
-fn wire(setup: Setup, given: Numbers) -> Setup {
-    let mut longer = setup;
-    let mut i: usize = 0;
-    while i < 24 {
-        if i < given.count {
-            let next = longer.with_flip(byte(given.at(i)));
-            longer = next;
-        }
-        i += 1;
-    }
-    longer
-}
-
-// With the flips over and over, so many in all.
-fn again(setup: Setup, all: usize) -> Setup {
-    let period = setup.many;
-    let mut longer = setup;
-    let mut i: usize = 0;
-    while i < 100 {
-        if longer.many < all {
-            let next = longer.with_flip(longer.flip_before(period));
-            longer = next;
-        }
-        i += 1;
-    }
-    longer
 }

@@ -1,10 +1,11 @@
 // How many steps of a group came out right, for a program that holds the code to numbers from outside, and the group's line.
 #![tactic(auto)]
 
+use std::fmt;
 use std::io;
 use std::io::Write;
 
-#[derive(Clone, Copy)]
+#[derive(Clone, Copy, Debug, PartialEq, Eq)]
 pub struct Tally {
     pub right: u32,
     pub all: u32,
@@ -18,16 +19,9 @@ impl Tally {
 
     // One more, which came out right or not.
     pub fn with(self, right: bool) -> Tally {
-        if right {
-            Tally {
-                right: one_more(self.right),
-                all: one_more(self.all),
-            }
-        } else {
-            Tally {
-                right: self.right,
-                all: one_more(self.all),
-            }
+        Tally {
+            right: self.right.saturating_add(u32::from(right)),
+            all: self.all.saturating_add(1),
         }
     }
 
@@ -47,13 +41,14 @@ impl Tally {
 
     // Writes the line of a group.
     pub fn report(self, out: &mut impl Write, group: &[u8]) -> io::Result<()> {
-        write!(out, "{} of {}: ", self.right, self.all)?;
+        write!(out, "{self}: ")?;
         out.write_all(group)?;
         writeln!(out)
     }
 }
 
-// The next number. It stops at a million, which no group reaches, so that no sum can wrap.
-pub fn one_more(n: u32) -> u32 {
-    if n < 1000000 { n + 1 } else { n }
+impl fmt::Display for Tally {
+    fn fmt<W: fmt::Write>(&self, f: &mut fmt::Formatter<W>) -> fmt::Result {
+        write!(f, "{} of {}", self.right, self.all)
+    }
 }

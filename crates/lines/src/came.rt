@@ -1,0 +1,46 @@
+// What a step of the script came to.
+ghost use Rattle.std.specs.Prelude.{◌≡◌};
+
+use crate::numbers::Numbers;
+use std::fmt;
+
+// The numbers to compare with what the script says, and what else is wrong with the step, if anything is.
+#[derive(Debug, PartialEq, Eq, Drop)]
+pub struct Came {
+    pub numbers: Numbers,
+    pub flaw: Option<Flaw>,
+}
+
+// What can be wrong with a step beside its numbers.
+#[derive(Clone, Copy, Debug, PartialEq, Eq)]
+pub enum Flaw {
+    WroteBehind, // a cell behind those that were written is not as it was
+    Touched, // so is a byte, or a cell, that had to stay
+    MachineChanged, // the call was refused, and the machine is another one
+    KeptChanged, // machine or boards are not as a run has to leave them
+    NotEchoed, // the record that was read is not the one that is written of it
+}
+
+impl fmt::Display for Flaw {
+    fn fmt<W: fmt::Write>(&self, f: &mut fmt::Formatter<W>) -> fmt::Result {
+        f.write_str(match self {
+            Flaw::WroteBehind => "wrote behind its cells",
+            Flaw::Touched => "touched what had to stay",
+            Flaw::MachineChanged => "changed the machine",
+            Flaw::KeptChanged => "changed what had to stay",
+            Flaw::NotEchoed => "was not written back",
+        })
+    }
+}
+
+impl Came {
+    // What a look came to, and what else has no flaw.
+    pub fn seen(numbers: Numbers) -> Came
+        ensures { result ≡ record { numbers = numbers; flaw = None } }
+    {
+        Came {
+            numbers,
+            flaw: None,
+        }
+    }
+}

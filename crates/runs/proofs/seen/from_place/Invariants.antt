@@ -1,9 +1,0 @@
--- `runs::seen::from_place` is safe, and ends after 24 places.
-use Rattle.std.proofs.Common.{◌-◌, ◌≤◌}
-use Rattle.runs.proofs.seen.from_place.Given as goal
-
-abbrev pub invariant-loop-i : goal.invariant-loop-i
-invariant-loop-i l = (l.first ≤ 1100) × (1 ≤ l.i) × (l.i ≤ 24)
-
-abbrev pub decreases-loop-i : goal.decreases-loop-i
-decreases-loop-i l = 24 - l.i

@@ -1,9 +1,0 @@
--- `runs::seen::offered` is safe, and ends after eight bytes.
-use Rattle.std.proofs.Common.{◌-◌, ◌≤◌}
-use Rattle.runs.proofs.seen.offered.Given as goal
-
-abbrev pub invariant-loop-i : goal.invariant-loop-i
-invariant-loop-i l = l.i ≤ 8
-
-abbrev pub decreases-loop-i : goal.decreases-loop-i
-decreases-loop-i l = 8 - l.i
