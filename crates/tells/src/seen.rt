@@ -12,7 +12,7 @@ pub struct Seen<'a>(pub &'a Machine);
 impl fmt::Display for Seen<'_> {
     fn fmt<W: fmt::Write>(&self, f: &mut fmt::Formatter<W>) -> fmt::Result {
         let m = self.0;
-        let facts = &m.facts;
+        let facts = &m.table.facts;
         write!(
             f,
             "machine flags {} legacy {} last {}",
@@ -23,7 +23,7 @@ impl fmt::Display for Seen<'_> {
         write!(
             f,
             " moment {} choice {} asked {} wanted {}",
-            looks::number_of(m.moment),
+            m.moment.number(),
             m.choice,
             m.asked,
             m.wanted
@@ -33,7 +33,7 @@ impl fmt::Display for Seen<'_> {
             " identity {:016X} offered {} refusals {}",
             m.identity, m.offered, m.refusals
         )?;
-        write!(f, " {}", Rows(&m.rows))
+        write!(f, " {}", Rows(&m.table.rows))
     }
 }
 

@@ -73,8 +73,10 @@ pub fn opens(out: &mut impl Write) -> io::Result<()> {
 
 // The slot test as one number: the refusal times 10, plus 1 for open.
 fn asked(flags: u8, legacy: &[u8], address: u8) -> u32 {
-    let answer = slots::slot_test(flags, legacy, 0, address);
-    (answer.refusal as u32) * 10 + (answer.open as u32)
+    match slots::slot_test(flags, legacy, 0, address) {
+        Ok(open) => open as u32,
+        Err(refusal) => refusal.number() as u32 * 10,
+    }
 }
 
 // Refusal 1 for the facts, then 2 for the address.

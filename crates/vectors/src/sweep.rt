@@ -34,7 +34,7 @@ pub fn open(flags: u8, address: u8) -> bool {
         legacy: [0; 16],
         last: 0,
     };
-    slots::is_open(facts, address)
+    facts.is_open(address)
 }
 
 // With this flag byte none of the seven addresses one bit away from 7Eh is open.
