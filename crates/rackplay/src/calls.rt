@@ -5,11 +5,12 @@ use boards::Board;
 use lent::NO_BOARD;
 use lines::cells::BLANK_CELL;
 use machine::{Machine, Stepped};
-use readings::Reading;
+use readings::{Command, Joining, Reading};
+use refusals::Refusal;
 use std::fmt;
 use std::fmt::Write;
 use tells::line::{BLANK_BYTE, Bytes, Cells};
-use tells::seen::{Boards, Seen};
+use tells::seen::{Boards, Said, Seen};
 
 // A line in the making, with more room than any needs: 1,024 cells, 40 boards and 32 rows come to less than 9,000 bytes.
 pub type Line = ArrayString<16384>;
@@ -109,16 +110,24 @@ fn stepped(line: &mut Line, done: Stepped, cells: &[u16]) -> Result<Machine, fmt
 
 // ---- questions
 
+// The number of a refusal, 0 for none, and what is said, 0 after a refusal.
+fn numbered<T: Default>(said: Result<T, Refusal>) -> (u8, T) {
+    match said {
+        Ok(value) => (0, value),
+        Err(refusal) => (refusal.number(), T::default()),
+    }
+}
+
 // `q`: ask for a ticket.
 fn ask(line: &mut Line, machine: Machine, ticket: u32) -> fmt::Result {
-    let said = machine.ask(ticket);
-    write!(line, "refused {} address {}", said.refusal, said.address)
+    let (refusal, address) = numbered(machine.ask(ticket));
+    write!(line, "refused {refusal} address {address}")
 }
 
 // `t`: the slot test.
 fn slot_test(line: &mut Line, flags: u8, legacy: &[u8], last: u32, address: u8) -> fmt::Result {
-    let said = slots::slot_test(flags, legacy, last, address);
-    write!(line, "refused {} open {}", said.refusal, said.open as u8)
+    let (refusal, open) = numbered(slots::slot_test(flags, legacy, last, address));
+    write!(line, "refused {refusal} open {}", open as u8)
 }
 
 // ---- the bench
@@ -175,21 +184,14 @@ fn read(line: &mut Line, record: &[[u8; 2]], lent: usize) -> fmt::Result {
     let cells = &cells[..record.len().min(MOST_CELLS)];
     let mut offers = [BLANK_BYTE; MOST_LENT];
     let offers = &mut offers[..lent.min(MOST_LENT)];
-    let said = reader::read(cells, offers);
-    let r = said.reading;
-    write!(line, "refused {} place {}", said.refusal, said.place)?;
-    write!(
-        line,
-        " joining {} command {}",
-        r.joining.number(),
-        r.command.number()
-    )?;
-    write!(line, " header {} new {}", r.header, r.new)?;
-    write!(
-        line,
-        " direct {} last {} offers {}",
-        r.direct as u8, r.last as u8, r.offers
-    )?;
+    match reader::read(cells, offers) {
+        Ok(reading) => write!(line, "refused 0 place 0 {}", Said(&reading))?,
+        Err(fault) => {
+            let nothing = readings::bare(Joining::None, Command::None);
+            let refusal = fault.refusal.number();
+            write!(line, "refused {refusal} place {} {}", fault.place, Said(&nothing))?;
+        }
+    }
     write!(line, " bytes {}", Bytes(offers))
 }
 
@@ -206,11 +208,6 @@ fn cells_of(bytes: &[[u8; 2]]) -> [u16; MOST_CELLS] {
 fn write(line: &mut Line, reading: Reading, offers: &[u8], lent: usize) -> fmt::Result {
     let mut cells = [BLANK_CELL; MOST_LENT];
     let cells = &mut cells[..lent.min(MOST_LENT)];
-    let done = writer::write(reading, offers, cells);
-    write!(
-        line,
-        "refused {} place {} wrote {}",
-        done.refusal, done.place, done.count
-    )?;
-    write!(line, " {}", Cells(cells))
+    let (refusal, count) = numbered(writer::write(&reading, offers, cells));
+    write!(line, "refused {refusal} place 0 wrote {count} {}", Cells(cells))
 }

@@ -5,6 +5,7 @@ use machine::{Machine, Moment};
 use readings::{Command, Joining, Reading};
 use rows::{NO_ROW, Row};
 use slots::Facts;
+use table::Table;
 
 // The most cells, or bytes, that a call is lent.
 pub const MOST_LENT: usize = 1024;
@@ -247,16 +248,24 @@ impl<'a> Given<'a> {
     // ---- a machine made by hand
 
     fn machine(&mut self) -> Option<Machine> {
+        let facts = self.facts()?;
+        let moment = Moment::try_from(self.byte()?).ok()?;
+        let choice = self.byte()?;
+        let asked = self.byte()?;
+        let wanted = self.byte()?;
+        let identity = self.identity()?;
+        let offered = self.byte()?;
+        let refusals = self.byte()?;
+        let rows = self.rows()?;
         Some(Machine {
-            facts: self.facts()?,
-            moment: self.moment()?,
-            choice: self.byte()?,
-            asked: self.byte()?,
-            wanted: self.byte()?,
-            identity: self.identity()?,
-            offered: self.byte()?,
-            refusals: self.byte()?,
-            rows: self.rows()?,
+            table: Table { facts, rows },
+            moment,
+            choice,
+            asked,
+            wanted,
+            identity,
+            offered,
+            refusals,
         })
     }
 
@@ -265,18 +274,6 @@ impl<'a> Given<'a> {
             flags: self.byte()?,
             legacy: self.bytes()?,
             last: self.ticket()?,
-        })
-    }
-
-    fn moment(&mut self) -> Option<Moment> {
-        Some(match self.byte()? {
-            0 => Moment::Idle,
-            1 => Moment::Opened,
-            2 => Moment::Round,
-            3 => Moment::Listening,
-            4 => Moment::Offered,
-            5 => Moment::Direct,
-            _ => return None,
         })
     }
 
@@ -302,35 +299,13 @@ impl<'a> Given<'a> {
 
     fn reading(&mut self) -> Option<Reading> {
         Some(Reading {
-            joining: self.joining()?,
-            command: self.command()?,
+            joining: Joining::try_from(self.byte()?).ok()?,
+            command: Command::try_from(self.byte()?).ok()?,
             header: self.byte()?,
             new: self.byte()?,
             direct: self.mark()?,
             last: self.mark()?,
             offers: self.small_count()?,
-        })
-    }
-
-    fn joining(&mut self) -> Option<Joining> {
-        Some(match self.byte()? {
-            0 => Joining::None,
-            1 => Joining::Refused,
-            2 => Joining::Answered,
-            _ => return None,
-        })
-    }
-
-    fn command(&mut self) -> Option<Command> {
-        Some(match self.byte()? {
-            0 => Command::None,
-            1 => Command::Assign,
-            2 => Command::ResetAll,
-            3 => Command::SetFromStatic,
-            4 => Command::Move,
-            5 => Command::Silence,
-            6 => Command::Allow,
-            _ => return None,
         })
     }
 }

@@ -1,7 +1,8 @@
-// What is seen of a machine and of boards.
+// What is seen of a machine, of boards and of a record.
 use crate::line::Hex;
 use boards::Board;
 use machine::Machine;
+use readings::Reading;
 use rows::{NO_ROW, Row};
 use std::fmt;
 
@@ -67,5 +68,27 @@ impl fmt::Display for Boards<'_> {
             write!(f, " {:016X}:{}", board.identity, board.address)?;
         }
         Ok(())
+    }
+}
+
+// What a record says: what it is about, its headers, and how many offers it has.
+#[derive(Clone, Copy)]
+pub struct Said<'a>(pub &'a Reading);
+
+impl fmt::Display for Said<'_> {
+    fn fmt<W: fmt::Write>(&self, f: &mut fmt::Formatter<W>) -> fmt::Result {
+        let r = self.0;
+        write!(
+            f,
+            "joining {} command {}",
+            r.joining.number(),
+            r.command.number()
+        )?;
+        write!(f, " header {} new {}", r.header, r.new)?;
+        write!(
+            f,
+            " direct {} last {} offers {}",
+            r.direct as u8, r.last as u8, r.offers
+        )
     }
 }
