@@ -1,233 +1,213 @@
-// The calls, each from its bytes to its line.
-use crate::{given, hand_made};
-use lent::{Owned, Report};
+// The calls, each from its numbers to its line.
+use crate::given::{Call, MOST_BOARDS, MOST_CELLS, MOST_LENT, Step};
+use arrayvec::ArrayString;
+use boards::Board;
+use lent::NO_BOARD;
 use lines::cells::BLANK_CELL;
-use lines::numbers::at_most;
 use machine::{Machine, Stepped};
-use reader::Answer;
-use readings::Reading;
-use tells::{line, seen};
-use writer::Written;
+use readings::{Command, Joining, Reading};
+use refusals::Refusal;
+use std::fmt;
+use std::fmt::Write;
+use tells::line::{BLANK_BYTE, Bytes, Cells};
+use tells::seen::{Boards, Said, Seen};
 
-// The machine that a call leaves, and how long its line is so far.
-#[derive(Clone, Copy)]
-pub struct Played {
-    pub machine: Machine,
-    pub used: usize,
-}
+// A line in the making, with more room than any needs: 1,024 cells, 40 boards and 32 rows come to less than 9,000 bytes.
+pub type Line = ArrayString<16384>;
 
 // The machine before any call: the one that a refused start hands back.
 pub fn first_machine() -> Machine {
-    let none = [0u8; 1];
-    machine::start(0, &none, 0).machine
+    machine::start(0, &[0], 0).machine
 }
 
-// Plays a call, by its letter. Those that write cells of a step come last.
-pub fn play(machine: Machine, call: &[u8], out: &mut [u8]) -> Played {
-    match given::byte(call, 0) {
-        b's' => stepped(out, start(call), &[]),
-        b'r' => stepped(out, machine.retire(given::ticket(call, 1)), &[]),
-        b'm' => stepped(out, made(hand_made::machine(call)), &[]),
-        b'q' => ask(machine, call, out),
-        b't' => slot_test(machine, call, out),
-        b'n' => run(machine, call, out),
-        b'd' => read(machine, call, out),
-        b'w' => write(machine, call, out),
-        _ => step(machine, call, out),
+// Plays a call, writes its line but for the end, and hands back the machine that it leaves.
+pub fn play(machine: Machine, call: Call<'_>, line: &mut Line) -> Result<Machine, fmt::Error> {
+    match call {
+        Call::Start {
+            flags,
+            legacy,
+            last,
+        } => stepped(line, machine::start(flags, legacy, last), &[]),
+        Call::Step { lent, step: taken } => step(line, machine, taken, lent),
+        Call::Retire { ticket } => stepped(line, machine.retire(ticket), &[]),
+        Call::Made(machine) => made(line, machine),
+        Call::Run {
+            lent,
+            flips,
+            boards,
+        } => run(line, machine, boards, flips, lent),
+        Call::Ask { ticket } => {
+            ask(line, machine, ticket)?;
+            Ok(machine)
+        }
+        Call::SlotTest {
+            flags,
+            legacy,
+            last,
+            address,
+        } => {
+            slot_test(line, flags, legacy, last, address)?;
+            Ok(machine)
+        }
+        Call::Read { lent, record } => {
+            read(line, record, lent)?;
+            Ok(machine)
+        }
+        Call::Write {
+            lent,
+            reading,
+            offers,
+        } => {
+            write(line, reading, offers, lent)?;
+            Ok(machine)
+        }
     }
 }
 
 // ---- the machine's calls
 
-// `s`: start.
-fn start(call: &[u8]) -> Stepped {
-    let many = given::small_count(call, 2);
-    let rest = &call[at_most(3, call.len())..];
-    let legacy = &rest[0..at_most(many, rest.len())];
-    machine::start(given::byte(call, 1), legacy, given::ticket(call, 3 + many))
-}
-
 // `m`: a machine made by hand, and no call.
-fn made(machine: Machine) -> Stepped {
-    Stepped {
+fn made(line: &mut Line, machine: Machine) -> Result<Machine, fmt::Error> {
+    let done = Stepped {
         machine,
         count: 0,
         refusal: 0,
-    }
+    };
+    stepped(line, done, &[])
 }
 
 // `b`, `a`, `i`, `g`, `j`: a call that writes cells.
-fn step(machine: Machine, call: &[u8], out: &mut [u8]) -> Played {
-    let mut cells = [BLANK_CELL; given::MOST_LENT];
-    step_on(machine, call, &mut cells, out)
-}
-
-// The same on the cells of which it is lent the first.
-fn step_on(machine: Machine, call: &[u8], cells: &mut [u16], out: &mut [u8]) -> Played {
-    let n = at_most(given::lent(call), cells.len());
-    let done = step_by_letter(machine, call, &mut cells[0..n]);
-    stepped(out, done, &cells[0..n])
-}
-
-// The call of the letter. It is `j` if it is none of the others: `call_length` lets no other letter through.
-fn step_by_letter(machine: Machine, call: &[u8], cells: &mut [u16]) -> Stepped {
-    match given::byte(call, 0) {
-        b'b' => begin(machine, call, cells),
-        b'a' => machine.answer(given::mark(call, 3), cells),
-        b'i' => machine.identity(&call[at_most(4, call.len())..], cells),
-        b'g' => machine.give_up(cells),
-        _ => machine.join(given::byte(call, 3), cells),
-    }
-}
-
-// `b`: begin.
-fn begin(machine: Machine, call: &[u8], cells: &mut [u16]) -> Stepped {
-    let choice = given::byte(call, 3);
-    let from = given::byte(call, 4);
-    let new = given::byte(call, 5);
-    machine.begin(choice, from, new, given::ticket(call, 6), cells)
+fn step(
+    line: &mut Line,
+    machine: Machine,
+    step: Step<'_>,
+    lent: usize,
+) -> Result<Machine, fmt::Error> {
+    let mut cells = [BLANK_CELL; MOST_LENT];
+    let cells = &mut cells[..lent.min(MOST_LENT)];
+    let done = match step {
+        Step::Begin {
+            choice,
+            from,
+            new,
+            ticket,
+        } => machine.begin(choice, from, new, ticket, cells),
+        Step::Answer(answered) => machine.answer(answered, cells),
+        Step::Identity(bytes) => machine.identity(bytes, cells),
+        Step::GiveUp => machine.give_up(cells),
+        Step::Join(choice) => machine.join(choice, cells),
+    };
+    stepped(line, done, cells)
 }
 
 // The line of a call that hands a machine back.
-fn stepped(out: &mut [u8], done: Stepped, cells: &[u16]) -> Played {
+fn stepped(line: &mut Line, done: Stepped, cells: &[u16]) -> Result<Machine, fmt::Error> {
     let machine = done.machine;
-    let at = line::number(out, 0, b"refused ", done.refusal as u64);
-    let at = line::number(out, at, b" wrote ", done.count as u64);
-    let at = line::cells(out, at, cells);
-    let used = seen::machine(out, at, machine);
-    Played { machine, used }
+    write!(line, "refused {} wrote {} ", done.refusal, done.count)?;
+    write!(line, "{} {}", Cells(cells), Seen(&machine))?;
+    Ok(machine)
 }
 
 // ---- questions
 
+// The number of a refusal, 0 for none, and what is said, 0 after a refusal.
+fn numbered<T: Default>(said: Result<T, Refusal>) -> (u8, T) {
+    match said {
+        Ok(value) => (0, value),
+        Err(refusal) => (refusal.number(), T::default()),
+    }
+}
+
 // `q`: ask for a ticket.
-fn ask(machine: Machine, call: &[u8], out: &mut [u8]) -> Played {
-    let said = machine.ask(given::ticket(call, 1));
-    let at = line::number(out, 0, b"refused ", said.refusal as u64);
-    let used = line::number(out, at, b" address ", said.address as u64);
-    Played { machine, used }
+fn ask(line: &mut Line, machine: Machine, ticket: u32) -> fmt::Result {
+    let (refusal, address) = numbered(machine.ask(ticket));
+    write!(line, "refused {refusal} address {address}")
 }
 
 // `t`: the slot test.
-fn slot_test(machine: Machine, call: &[u8], out: &mut [u8]) -> Played {
-    let many = given::small_count(call, 2);
-    let rest = &call[at_most(3, call.len())..];
-    let legacy = &rest[0..at_most(many, rest.len())];
-    let last = given::ticket(call, 3 + many);
-    let address = given::byte(call, 7 + many);
-    let said = slots::slot_test(given::byte(call, 1), legacy, last, address);
-    let at = line::number(out, 0, b"refused ", said.refusal as u64);
-    let used = line::mark(out, at, b" open ", said.open);
-    Played { machine, used }
+fn slot_test(line: &mut Line, flags: u8, legacy: &[u8], last: u32, address: u8) -> fmt::Result {
+    let (refusal, open) = numbered(slots::slot_test(flags, legacy, last, address));
+    write!(line, "refused {refusal} open {}", open as u8)
 }
 
 // ---- the bench
 
 // `n`: a bench run.
-fn run(machine: Machine, call: &[u8], out: &mut [u8]) -> Played {
-    let mut cells = [BLANK_CELL; given::MOST_LENT];
-    run_on(machine, call, &mut cells, out)
-}
-
-// The same on the cells of which it is lent the first.
-fn run_on(machine: Machine, call: &[u8], cells: &mut [u16], out: &mut [u8]) -> Played {
-    let many = given::small_count(call, 3);
-    let count = given::small_count(call, 4 + many);
-    let boards = hand_made::boards(&call[at_most(5 + many, call.len())..], count);
-    let rest = &call[at_most(4, call.len())..];
-    let flips = &rest[0..at_most(many, rest.len())];
-    let n = at_most(given::lent(call), cells.len());
-    let owned = lent::run_owned(machine, boards, count, flips, &mut cells[0..n]);
-    ran(out, owned, count, &cells[0..n])
-}
-
-// The line of a run.
-fn ran(out: &mut [u8], owned: Owned, count: usize, cells: &[u16]) -> Played {
+fn run(
+    line: &mut Line,
+    machine: Machine,
+    boards: &[[u8; 9]],
+    flips: &[u8],
+    lent: usize,
+) -> Result<Machine, fmt::Error> {
+    let mut cells = [BLANK_CELL; MOST_LENT];
+    let cells = &mut cells[..lent.min(MOST_LENT)];
+    let count = boards.len().min(MOST_BOARDS);
+    let owned = lent::run_owned(machine, boards_of(boards), count, flips, cells);
     let report = owned.report;
-    let boards = owned.boards;
-    let machine = report.machine;
-    let at = line::number(out, 0, b"refused ", report.refusal as u64);
-    let at = line::number(out, at, b" wrote ", report.count as u64);
-    let at = line::cells(out, at, cells);
-    let at = ending(out, at, report);
-    let at = seen::boards(out, at, boards, count);
-    let used = seen::machine(out, at, machine);
-    Played { machine, used }
+    write!(
+        line,
+        "refused {} wrote {} {}",
+        report.refusal,
+        report.count,
+        Cells(cells)
+    )?;
+    write!(
+        line,
+        " end {} rounds {} clocks {}",
+        report.ending, report.rounds, report.clocks
+    )?;
+    write!(
+        line,
+        " {} {}",
+        Boards(&owned.boards[..count]),
+        Seen(&report.machine)
+    )?;
+    Ok(report.machine)
 }
 
-// How a run ended.
-fn ending(out: &mut [u8], from: usize, report: Report) -> usize {
-    let at = line::number(out, from, b" end ", report.ending as u64);
-    let at = line::number(out, at, b" rounds ", report.rounds as u64);
-    line::number(out, at, b" clocks ", report.clocks as u64)
+// The boards of these bytes: eight of the identity, and the address.
+fn boards_of(bytes: &[[u8; 9]]) -> [Board; MOST_BOARDS] {
+    let mut boards = [NO_BOARD; MOST_BOARDS];
+    for (board, [a, b, c, d, e, f, g, h, address]) in boards.iter_mut().zip(bytes) {
+        board.identity = u64::from_be_bytes([*a, *b, *c, *d, *e, *f, *g, *h]);
+        board.address = *address;
+    }
+    boards
 }
 
 // ---- records
 
 // `d`: a record is read.
-fn read(machine: Machine, call: &[u8], out: &mut [u8]) -> Played {
-    let cells = hand_made::record(call);
-    let mut offers = [line::BLANK_BYTE; given::MOST_LENT];
-    let used = read_on(&cells, call, &mut offers, out);
-    Played { machine, used }
+fn read(line: &mut Line, record: &[[u8; 2]], lent: usize) -> fmt::Result {
+    let cells = cells_of(record);
+    let cells = &cells[..record.len().min(MOST_CELLS)];
+    let mut offers = [BLANK_BYTE; MOST_LENT];
+    let offers = &mut offers[..lent.min(MOST_LENT)];
+    match reader::read(cells, offers) {
+        Ok(reading) => write!(line, "refused 0 place 0 {}", Said(&reading))?,
+        Err(fault) => {
+            let nothing = readings::bare(Joining::None, Command::None);
+            let refusal = fault.refusal.number();
+            write!(line, "refused {refusal} place {} {}", fault.place, Said(&nothing))?;
+        }
+    }
+    write!(line, " bytes {}", Bytes(offers))
 }
 
-// The same on the cells that it has, and on the bytes of which it is lent the first.
-fn read_on(cells: &[u16], call: &[u8], offers: &mut [u8], out: &mut [u8]) -> usize {
-    let n = at_most(given::large_count(call, 3), cells.len());
-    let k = at_most(given::lent(call), offers.len());
-    let said = reader::read(&cells[0..n], &mut offers[0..k]);
-    let at = what_it_says(out, said);
-    line::bytes(out, at, &offers[0..k])
-}
-
-// What the reader says of a record.
-fn what_it_says(out: &mut [u8], said: Answer) -> usize {
-    let reading = said.reading;
-    let at = line::number(out, 0, b"refused ", said.refusal as u64);
-    let at = line::number(out, at, b" place ", said.place as u64);
-    let at = command(out, at, reading);
-    headers(out, at, reading)
-}
-
-// What a record is about.
-fn command(out: &mut [u8], from: usize, reading: Reading) -> usize {
-    let joining = reading.joining;
-    let command = reading.command;
-    let at = line::number(out, from, b" joining ", joining.number() as u64);
-    line::number(out, at, b" command ", command.number() as u64)
-}
-
-// Its headers, and how many offers it has.
-fn headers(out: &mut [u8], from: usize, reading: Reading) -> usize {
-    let at = line::number(out, from, b" header ", reading.header as u64);
-    let at = line::number(out, at, b" new ", reading.new as u64);
-    let at = line::mark(out, at, b" direct ", reading.direct);
-    let at = line::mark(out, at, b" last ", reading.last);
-    let at = line::number(out, at, b" offers ", reading.offers as u64);
-    line::word(out, at, b" bytes ")
+// The cells of these bytes.
+fn cells_of(bytes: &[[u8; 2]]) -> [u16; MOST_CELLS] {
+    let mut cells = [0; MOST_CELLS];
+    for (cell, bytes) in cells.iter_mut().zip(bytes) {
+        *cell = u16::from_be_bytes(*bytes);
+    }
+    cells
 }
 
 // `w`: a record is written.
-fn write(machine: Machine, call: &[u8], out: &mut [u8]) -> Played {
-    let mut cells = [BLANK_CELL; given::MOST_LENT];
-    let used = write_on(call, &mut cells, out);
-    Played { machine, used }
-}
-
-// The same on the cells of which it is lent the first.
-fn write_on(call: &[u8], cells: &mut [u16], out: &mut [u8]) -> usize {
-    let reading = hand_made::reading(call);
-    let n = at_most(given::lent(call), cells.len());
-    let offers = &call[at_most(12, call.len())..];
-    let done = writer::write(reading, offers, &mut cells[0..n]);
-    let at = what_it_did(out, done);
-    line::cells(out, at, &cells[0..n])
-}
-
-// What the writer says.
-fn what_it_did(out: &mut [u8], done: Written) -> usize {
-    let at = line::number(out, 0, b"refused ", done.refusal as u64);
-    let at = line::number(out, at, b" place ", done.place as u64);
-    line::number(out, at, b" wrote ", done.count as u64)
+fn write(line: &mut Line, reading: Reading, offers: &[u8], lent: usize) -> fmt::Result {
+    let mut cells = [BLANK_CELL; MOST_LENT];
+    let cells = &mut cells[..lent.min(MOST_LENT)];
+    let (refusal, count) = numbered(writer::write(&reading, offers, cells));
+    write!(line, "refused {refusal} place 0 wrote {count} {}", Cells(cells))
 }

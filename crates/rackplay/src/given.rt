@@ -1,129 +1,311 @@
-// What a call is given: its numbers, and how many bytes it has.
-ghost use Rattle.std.specs.Prelude.{◌≤◌, length};
+// What a script gives, read from its front: numbers, of which the highest byte stands first, and the calls that are made of them.
+ghost use Rattle.std.specs.Prelude.{◌≡◌, ◌<◌, length, IfSome};
 
-use lines::numbers;
-use lines::numbers::at_most;
+use machine::{Machine, Moment};
+use readings::{Command, Joining, Reading};
+use rows::{NO_ROW, Row};
+use slots::Facts;
+use table::Table;
 
 // The most cells, or bytes, that a call is lent.
 pub const MOST_LENT: usize = 1024;
 
-// The number of so many bytes from a place on, highest first. What lies behind the end of the call counts for nothing.
-fn number(call: &[u8], place: usize, many: usize) -> u64 {
-    let mut n: u64 = 0;
-    let mut i = place;
-    while i < call.len() {
-        if i - place == many {
-            return n;
+// The most cells of a record that is read.
+pub const MOST_CELLS: usize = 1100;
+
+// The most boards of a run.
+pub const MOST_BOARDS: usize = 40;
+
+// A call with its numbers. The cells of a record and the boards of a run are bytes still: two for a cell, nine for a board.
+#[derive(Clone, Copy)]
+pub enum Call<'a> {
+    Start {
+        flags: u8,
+        legacy: &'a [u8],
+        last: u32,
+    },
+    Step {
+        lent: usize,
+        step: Step<'a>,
+    },
+    Retire {
+        ticket: u32,
+    },
+    Ask {
+        ticket: u32,
+    },
+    SlotTest {
+        flags: u8,
+        legacy: &'a [u8],
+        last: u32,
+        address: u8,
+    },
+    // no call: a machine made by hand
+    Made(Machine),
+    Run {
+        lent: usize,
+        flips: &'a [u8],
+        boards: &'a [[u8; 9]],
+    },
+    Read {
+        lent: usize,
+        record: &'a [[u8; 2]],
+    },
+    Write {
+        lent: usize,
+        reading: Reading,
+        offers: &'a [u8],
+    },
+}
+
+// A call of the machine that writes cells.
+#[derive(Clone, Copy)]
+pub enum Step<'a> {
+    Begin {
+        choice: u8,
+        from: u8,
+        new: u8,
+        ticket: u32,
+    },
+    Answer(bool),
+    Identity(&'a [u8]),
+    GiveUp,
+    Join(u8),
+}
+
+// The rest of a script. What is read goes from its front; it is None if the script breaks off, or no call can take the number.
+#[derive(Clone, Copy)]
+pub struct Given<'a> {
+    rest: &'a [u8],
+}
+
+impl<'a> Given<'a> {
+    // All of a script.
+    pub fn new(script: &'a [u8]) -> Given<'a>
+        ensures { result.rest.now ≡ script.now }
+    {
+        Given { rest: script }
+    }
+
+    // How many bytes are left.
+    pub fn len(&self) -> usize
+        ensures { result ≡ length self.now.rest.now }
+    {
+        self.rest.len()
+    }
+
+    // The next call. None too if its letter is none.
+    pub fn call(&mut self) -> Option<Call<'a>>
+        ensures { IfSome result (λ _. length self.new.rest.now < length self.old.rest.now) }
+    {
+        let before = self.len();
+        let letter = self.byte()?;
+        let call = self.call_of(letter)?;
+        // always so: a call has its letter at least
+        if self.len() < before {
+            Some(call)
+        } else {
+            None
         }
-        n = with_byte(n, call[i]);
-        i += 1;
     }
-    n
-}
 
-// A number with one byte more behind it; of eight the first goes.
-fn with_byte(n: u64, byte: u8) -> u64 {
-    (n % 72057594037927936) * 256 + (byte as u64)
-}
-
-// The byte at a place.
-pub fn byte(call: &[u8], place: usize) -> u8 {
-    numbers::byte(number(call, place, 1))
-}
-
-// Whether the byte at a place says yes: all but 0 do.
-pub fn mark(call: &[u8], place: usize) -> bool {
-    byte(call, place) != 0
-}
-
-// The cell at a place.
-pub fn cell(call: &[u8], place: usize) -> u16 {
-    numbers::cell(number(call, place, 2))
-}
-
-// The ticket at a place.
-pub fn ticket(call: &[u8], place: usize) -> u32 {
-    numbers::ticket(number(call, place, 4))
-}
-
-// The identity at a place.
-pub fn identity(call: &[u8], place: usize) -> u64 {
-    number(call, place, 8)
-}
-
-// The count of one byte at a place.
-pub fn small_count(call: &[u8], place: usize) -> usize
-    ensures { result ≤ 255 }
-{
-    at_most(numbers::size(number(call, place, 1)), 255)
-}
-
-// The count of two bytes at a place.
-pub fn large_count(call: &[u8], place: usize) -> usize
-    ensures { result ≤ 65535 }
-{
-    at_most(numbers::size(number(call, place, 2)), 65535)
-}
-
-// How much a call is lent, which stands behind its letter.
-pub fn lent(call: &[u8]) -> usize
-    ensures { result ≤ 1024 }
-{
-    at_most(large_count(call, 1), MOST_LENT)
-}
-
-// How many bytes the call has with which these begin, 0 if it is none or breaks off.
-pub fn call_length(bytes: &[u8]) -> usize
-    ensures { result ≤ length bytes.now }
-{
-    let many = whole_length(bytes);
-    if bytes.len() < many {
-        return 0;
+    // The call of a letter, which has been read.
+    fn call_of(&mut self, letter: u8) -> Option<Call<'a>> {
+        Some(match letter {
+            b's' => Call::Start {
+                flags: self.byte()?,
+                legacy: self.short_list()?,
+                last: self.ticket()?,
+            },
+            b'r' => Call::Retire {
+                ticket: self.ticket()?,
+            },
+            b'q' => Call::Ask {
+                ticket: self.ticket()?,
+            },
+            b't' => Call::SlotTest {
+                flags: self.byte()?,
+                legacy: self.short_list()?,
+                last: self.ticket()?,
+                address: self.byte()?,
+            },
+            b'm' => Call::Made(self.machine()?),
+            b'n' => Call::Run {
+                lent: self.lent()?,
+                flips: self.short_list()?,
+                boards: self.boards()?,
+            },
+            b'd' => Call::Read {
+                lent: self.lent()?,
+                record: self.record()?,
+            },
+            b'w' => Call::Write {
+                lent: self.lent()?,
+                reading: self.reading()?,
+                offers: self.long_list()?,
+            },
+            _ => Call::Step {
+                lent: self.lent()?,
+                step: self.step(letter)?,
+            },
+        })
     }
-    if can_be_played(bytes) { many } else { 0 }
-}
 
-// How many bytes a call has by its letter and its counts, 0 if the letter is none.
-fn whole_length(call: &[u8]) -> usize {
-    match byte(call, 0) {
-        b's' => 7 + small_count(call, 2),
-        b'b' => 10,
-        b'a' => 4,
-        b'i' => 4 + small_count(call, 3),
-        b'g' => 3,
-        b'j' => 4,
-        b'r' => 5,
-        b'q' => 5,
-        b't' => 8 + small_count(call, 2),
-        b'm' => 516,
-        b'n' => run_length(call, small_count(call, 3)),
-        b'd' => 5 + 2 * large_count(call, 3),
-        b'w' => 12 + large_count(call, 10),
-        _ => 0,
+    // A call of the machine that writes cells, by its letter.
+    fn step(&mut self, letter: u8) -> Option<Step<'a>> {
+        Some(match letter {
+            b'b' => Step::Begin {
+                choice: self.byte()?,
+                from: self.byte()?,
+                new: self.byte()?,
+                ticket: self.ticket()?,
+            },
+            b'a' => Step::Answer(self.mark()?),
+            b'i' => Step::Identity(self.short_list()?),
+            b'g' => Step::GiveUp,
+            b'j' => Step::Join(self.byte()?),
+            _ => return None,
+        })
     }
-}
 
-// How many bytes a bench run has with so many flips.
-fn run_length(call: &[u8], flips: usize) -> usize
-    requires { flips ≤ 255 }
-{
-    5 + flips + 9 * small_count(call, 4 + flips)
-}
+    // ---- numbers
 
-// Whether the numbers of a call are such that it can be made.
-fn can_be_played(call: &[u8]) -> bool {
-    let flips = small_count(call, 3);
-    match byte(call, 0) {
-        b's' | b'r' | b'q' | b't' => true,
-        b'm' => byte(call, 22) <= 5,
-        b'n' => is_lent(call) & (byte(call, 4 + flips) <= 40),
-        b'd' => is_lent(call) & (large_count(call, 3) <= 1100),
-        b'w' => is_lent(call) & (byte(call, 3) <= 2) & (byte(call, 4) <= 6),
-        _ => is_lent(call),
+    // So many bytes.
+    fn bytes<const N: usize>(&mut self) -> Option<[u8; N]> {
+        let (bytes, rest) = self.rest.split_first_chunk::<N>()?;
+        self.rest = rest;
+        Some(*bytes)
     }
-}
 
-// Whether a call is lent no more than the most.
-fn is_lent(call: &[u8]) -> bool {
-    large_count(call, 1) <= MOST_LENT
+    fn byte(&mut self) -> Option<u8> {
+        let [byte] = self.bytes::<1>()?;
+        Some(byte)
+    }
+
+    // A mark: all but 0 says yes.
+    fn mark(&mut self) -> Option<bool> {
+        Some(self.byte()? != 0)
+    }
+
+    fn ticket(&mut self) -> Option<u32> {
+        Some(u32::from_be_bytes(self.bytes()?))
+    }
+
+    fn identity(&mut self) -> Option<u64> {
+        Some(u64::from_be_bytes(self.bytes()?))
+    }
+
+    // A count of one byte.
+    fn small_count(&mut self) -> Option<usize>
+        ensures { IfSome result (λ n. n < 256) }
+    {
+        Some(self.byte()? as usize)
+    }
+
+    // A count of two bytes.
+    fn large_count(&mut self) -> Option<usize>
+        ensures { IfSome result (λ n. n < 65536) }
+    {
+        Some(u16::from_be_bytes(self.bytes()?) as usize)
+    }
+
+    // How much a call is lent.
+    fn lent(&mut self) -> Option<usize> {
+        let many = self.large_count()?;
+        if MOST_LENT < many { None } else { Some(many) }
+    }
+
+    // A count of one byte, and as many bytes.
+    fn short_list(&mut self) -> Option<&'a [u8]> {
+        let many = self.small_count()?;
+        self.rest.split_off(..many)
+    }
+
+    // A count of two bytes, and as many bytes.
+    fn long_list(&mut self) -> Option<&'a [u8]> {
+        let many = self.large_count()?;
+        self.rest.split_off(..many)
+    }
+
+    // A count of one byte, and as many boards.
+    fn boards(&mut self) -> Option<&'a [[u8; 9]]> {
+        let many = self.small_count()?;
+        if MOST_BOARDS < many {
+            return None;
+        }
+        Some(self.rest.split_off(..9 * many)?.as_chunks().0)
+    }
+
+    // A count of two bytes, and as many cells.
+    fn record(&mut self) -> Option<&'a [[u8; 2]]> {
+        let many = self.large_count()?;
+        if MOST_CELLS < many {
+            return None;
+        }
+        Some(self.rest.split_off(..2 * many)?.as_chunks().0)
+    }
+
+    // ---- a machine made by hand
+
+    fn machine(&mut self) -> Option<Machine> {
+        let facts = self.facts()?;
+        let moment = Moment::try_from(self.byte()?).ok()?;
+        let choice = self.byte()?;
+        let asked = self.byte()?;
+        let wanted = self.byte()?;
+        let identity = self.identity()?;
+        let offered = self.byte()?;
+        let refusals = self.byte()?;
+        let rows = self.rows()?;
+        Some(Machine {
+            table: Table { facts, rows },
+            moment,
+            choice,
+            asked,
+            wanted,
+            identity,
+            offered,
+            refusals,
+        })
+    }
+
+    fn facts(&mut self) -> Option<Facts> {
+        Some(Facts {
+            flags: self.byte()?,
+            legacy: self.bytes()?,
+            last: self.ticket()?,
+        })
+    }
+
+    fn rows(&mut self) -> Option<[Row; 32]> {
+        let mut rows = [NO_ROW; 32];
+        for row in &mut rows {
+            *row = self.row()?;
+        }
+        Some(rows)
+    }
+
+    fn row(&mut self) -> Option<Row> {
+        Some(Row {
+            address: self.byte()?,
+            ticket: self.ticket()?,
+            unknown: self.mark()?,
+            identity: self.identity()?,
+            from_static: self.byte()?,
+        })
+    }
+
+    // ---- what the writer is given
+
+    fn reading(&mut self) -> Option<Reading> {
+        Some(Reading {
+            joining: Joining::try_from(self.byte()?).ok()?,
+            command: Command::try_from(self.byte()?).ok()?,
+            header: self.byte()?,
+            new: self.byte()?,
+            direct: self.mark()?,
+            last: self.mark()?,
+            offers: self.small_count()?,
+        })
+    }
 }

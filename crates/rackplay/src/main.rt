@@ -4,27 +4,17 @@
 // and a call that does not end, are told with their place, and end the script: `bad script at PLACE`.
 #![tactic(auto)]
 
-ghost use Rattle.std.specs.Prelude.{◌≡◌, length};
-
 mod calls;
 mod given;
-mod hand_made;
 mod script;
 
 use std::io;
 
 // One byte more than is played of a script, so that what is longer can be told from what is not.
-const ROOM: usize = 262145;
-
-// The place for a script.
-fn room() -> [u8; ROOM]
-    ensures { 262145 ≡ length result }
-{
-    [0; ROOM]
-}
+const ROOM: usize = script::MOST_BYTES + 1;
 
 fn main(rt: HostRuntime) -> io::Result<()> {
-    let mut bytes = room();
+    let mut bytes = [0; ROOM];
     let n = fills::read_full(&mut rt.reader(), &mut bytes)?;
     script::play(&mut io::writer(&rt), &bytes[..n])
 }

@@ -1,113 +1,94 @@
-// What is seen of a machine and of boards.
-use crate::line;
+// What is seen of a machine, of boards and of a record.
+use crate::line::Hex;
 use boards::Board;
 use machine::Machine;
-use rows::Row;
-use slots::Facts;
+use readings::Reading;
+use rows::{NO_ROW, Row};
+use std::fmt;
 
 // The machine: its facts, its moment, what it remembers, its rows.
-pub fn machine(out: &mut [u8], from: usize, m: Machine) -> usize {
-    let f = m.facts;
-    let r = m.rows;
-    let at = facts(out, from, f);
-    let at = begun(out, at, m);
-    let at = offered(out, at, m);
-    rows(out, at, r)
-}
+#[derive(Clone, Copy)]
+pub struct Seen<'a>(pub &'a Machine);
 
-// The bus facts.
-fn facts(out: &mut [u8], from: usize, f: Facts) -> usize {
-    let legacy = f.legacy;
-    let at = line::number(out, from, b" machine flags ", f.flags as u64);
-    let at = line::word(out, at, b" legacy ");
-    let at = line::hex(out, at, &legacy);
-    line::number(out, at, b" last ", f.last as u64)
-}
-
-// The moment, and what was begun.
-fn begun(out: &mut [u8], from: usize, m: Machine) -> usize {
-    let moment = m.moment;
-    let at = line::number(out, from, b" moment ", looks::number_of(moment));
-    let at = line::number(out, at, b" choice ", m.choice as u64);
-    let at = line::number(out, at, b" asked ", m.asked as u64);
-    line::number(out, at, b" wanted ", m.wanted as u64)
-}
-
-// What is offered.
-fn offered(out: &mut [u8], from: usize, m: Machine) -> usize {
-    let at = line::word(out, from, b" identity ");
-    let at = line::identity(out, at, m.identity);
-    let at = line::number(out, at, b" offered ", m.offered as u64);
-    line::number(out, at, b" refusals ", m.refusals as u64)
-}
-
-// The used places, in the order in which they stand, and a word if an unused one is not all zero.
-fn rows(out: &mut [u8], from: usize, rows: [Row; 32]) -> usize {
-    let mut at = line::word(out, from, b" rows");
-    let mut i: usize = 0;
-    while i < 32 {
-        at = place(out, at, rows[i]);
-        i += 1;
+impl fmt::Display for Seen<'_> {
+    fn fmt<W: fmt::Write>(&self, f: &mut fmt::Formatter<W>) -> fmt::Result {
+        let m = self.0;
+        let facts = &m.table.facts;
+        write!(
+            f,
+            "machine flags {} legacy {} last {}",
+            facts.flags,
+            Hex(&facts.legacy),
+            facts.last
+        )?;
+        write!(
+            f,
+            " moment {} choice {} asked {} wanted {}",
+            m.moment.number(),
+            m.choice,
+            m.asked,
+            m.wanted
+        )?;
+        write!(
+            f,
+            " identity {:016X} offered {} refusals {}",
+            m.identity, m.offered, m.refusals
+        )?;
+        write!(f, " {}", Rows(&m.table.rows))
     }
-    if is_dirty(rows) {
-        return line::word(out, at, b" dirty");
-    }
-    at
 }
 
-// A place, if it is used.
-fn place(out: &mut [u8], at: usize, row: Row) -> usize {
-    if row.address == 0 {
-        return at;
-    }
-    used(out, at, row)
-}
+// The word `rows` and the used places, in the order in which they stand; the word `dirty` if an unused one is not all zero.
+#[derive(Clone, Copy)]
+struct Rows<'a>(&'a [Row; 32]);
 
-// A used place.
-fn used(out: &mut [u8], from: usize, row: Row) -> usize {
-    let at = line::number(out, from, b" ", row.address as u64);
-    let at = line::number(out, at, b":", row.ticket as u64);
-    let at = line::mark(out, at, b":", row.unknown);
-    let at = line::word(out, at, b":");
-    let at = line::identity(out, at, row.identity);
-    line::number(out, at, b":", row.from_static as u64)
-}
-
-// Whether an unused place is not all zero.
-fn is_dirty(rows: [Row; 32]) -> bool {
-    let mut i: usize = 0;
-    while i < 32 {
-        if has_remains(rows[i]) {
-            return true;
+impl fmt::Display for Rows<'_> {
+    fn fmt<W: fmt::Write>(&self, f: &mut fmt::Formatter<W>) -> fmt::Result {
+        let rows = self.0;
+        write!(f, "rows")?;
+        for row in rows.iter().filter(|row| row.address != 0) {
+            write!(f, " {}:{}:{}", row.address, row.ticket, row.unknown as u8)?;
+            write!(f, ":{:016X}:{}", row.identity, row.from_static)?;
         }
-        i += 1;
+        if rows.iter().any(|row| (row.address == 0) & (*row != NO_ROW)) {
+            write!(f, " dirty")?;
+        }
+        Ok(())
     }
-    false
 }
 
-// Whether a place is unused, and yet something stands in it.
-fn has_remains(row: Row) -> bool {
-    (row.address == 0)
-        & ((row.ticket != 0) | row.unknown | (row.identity != 0) | (row.from_static != 0))
+// The word `boards` and these boards, each with its address.
+#[derive(Clone, Copy)]
+pub struct Boards<'a>(pub &'a [Board]);
+
+impl fmt::Display for Boards<'_> {
+    fn fmt<W: fmt::Write>(&self, f: &mut fmt::Formatter<W>) -> fmt::Result {
+        write!(f, "boards")?;
+        for board in self.0 {
+            write!(f, " {:016X}:{}", board.identity, board.address)?;
+        }
+        Ok(())
+    }
 }
 
-// The first boards of these places, each with its address.
-pub fn boards(out: &mut [u8], from: usize, boards: [Board; 40], count: usize) -> usize {
-    let mut at = line::word(out, from, b" boards");
-    let mut i: usize = 0;
-    while i < 40 {
-        at = board(out, at, boards[i], i < count);
-        i += 1;
-    }
-    at
-}
+// What a record says: what it is about, its headers, and how many offers it has.
+#[derive(Clone, Copy)]
+pub struct Said<'a>(pub &'a Reading);
 
-// A board, if it is told.
-fn board(out: &mut [u8], from: usize, b: Board, told: bool) -> usize {
-    if !told {
-        return from;
+impl fmt::Display for Said<'_> {
+    fn fmt<W: fmt::Write>(&self, f: &mut fmt::Formatter<W>) -> fmt::Result {
+        let r = self.0;
+        write!(
+            f,
+            "joining {} command {}",
+            r.joining.number(),
+            r.command.number()
+        )?;
+        write!(f, " header {} new {}", r.header, r.new)?;
+        write!(
+            f,
+            " direct {} last {} offers {}",
+            r.direct as u8, r.last as u8, r.offers
+        )
     }
-    let at = line::word(out, from, b" ");
-    let at = line::identity(out, at, b.identity);
-    line::number(out, at, b":", b.address as u64)
 }

@@ -1,48 +1,55 @@
 // Bytes, ninth bits and cells.
-use crate::sweep::{Test, passing};
+use crate::sweep::{ninth, offer, passing, turns};
 use std::io;
 use std::io::Write;
 use tally::Tally;
 
-fn cell(out: &mut impl Write, t: Tally, byte: u8, should: u16) -> io::Result<Tally> {
-    t.number(
-        out,
-        byte as u32,
-        parity::data_cell(byte) as u32,
-        should as u32,
-    )
+// Bytes against the cells that they should be as data.
+fn cells(out: &mut impl Write, bytes: &[(u8, u16)]) -> io::Result<Tally> {
+    let mut t = Tally::new();
+    for (byte, should) in bytes {
+        t = t.number(
+            out,
+            *byte as u32,
+            parity::data_cell(*byte) as u32,
+            *should as u32,
+        )?;
+    }
+    Ok(t)
 }
 
 // 000 5.1.2.3.3, and the codes of the examples in annex D.
 pub fn ninth_bits(out: &mut impl Write) -> io::Result<()> {
-    let mut t = Tally::new();
-    t = cell(out, t, 0xFF, 511)?;
-    t = cell(out, t, 0x00, 1)?;
-    t = cell(out, t, 0xFE, 508)?;
-    t = cell(out, t, 0x01, 2)?;
-    t = cell(out, t, 0x8D, 283)?;
-    t = cell(out, t, 0x20, 64)?;
-    t = cell(out, t, 0x23, 70)?;
-    t.report(out, b"ninth bits (000 5.1.2.3.3, D.2, D.4, D.7)")
+    let bytes = [
+        (0xFF, 511),
+        (0x00, 1),
+        (0xFE, 508),
+        (0x01, 2),
+        (0x8D, 283),
+        (0x20, 64),
+        (0x23, 70),
+    ];
+    cells(out, &bytes)?.report(out, b"ninth bits (000 5.1.2.3.3, D.2, D.4, D.7)")
 }
 
 // 000 tables 16, 17 and 54; the Hot-Join event is bit 3 of tables 18 and 19.
 pub fn commands(out: &mut impl Write) -> io::Result<()> {
-    let mut t = Tally::new();
-    t = cell(out, t, 0x00, 1)?;
-    t = cell(out, t, 0x01, 2)?;
-    t = cell(out, t, 0x06, 13)?;
-    t = cell(out, t, 0x07, 14)?;
-    t = cell(out, t, 0x2C, 88)?;
-    t = cell(out, t, 0x87, 271)?;
-    t = cell(out, t, 0x88, 273)?;
-    t = cell(out, t, 0x8D, 283)?;
-    t = cell(out, t, 0x8E, 285)?;
-    t = cell(out, t, 0x8F, 286)?;
-    t = cell(out, t, 0x9B, 310)?;
-    t = cell(out, t, 0x9C, 313)?;
-    t = cell(out, t, 0x08, 16)?;
-    t.report(
+    let bytes = [
+        (0x00, 1),
+        (0x01, 2),
+        (0x06, 13),
+        (0x07, 14),
+        (0x2C, 88),
+        (0x87, 271),
+        (0x88, 273),
+        (0x8D, 283),
+        (0x8E, 285),
+        (0x8F, 286),
+        (0x9B, 310),
+        (0x9C, 313),
+        (0x08, 16),
+    ];
+    cells(out, &bytes)?.report(
         out,
         b"command codes and the event byte (000 tables 16 to 19, 54)",
     )
@@ -95,23 +102,18 @@ pub fn roles(out: &mut impl Write) -> io::Result<()> {
     )
 }
 
-fn offer(out: &mut impl Write, t: Tally, address: u8, should: u8) -> io::Result<Tally> {
-    t.number(
-        out,
-        address as u32,
-        parity::offered_byte(address) as u32,
-        should as u32,
-    )
-}
-
 // 01's numbers; 000 5.1.4.2 step 9 for every address.
 pub fn offers(out: &mut impl Write) -> io::Result<()> {
     let mut t = Tally::new();
-    t = offer(out, t, 0x08, 0x10)?;
-    t = offer(out, t, 0x09, 0x13)?;
-    t = offer(out, t, 0x0B, 0x16)?;
-    t = offer(out, t, 0x77, 0xEF)?;
-    t = t.number(out, 0x7F, passing(Test::Offer, 0x00, 0x7F), 128)?;
+    for (address, should) in [(0x08, 0x10), (0x09, 0x13), (0x0B, 0x16), (0x77, 0xEF)] {
+        t = t.number(
+            out,
+            address as u32,
+            parity::offered_byte(address) as u32,
+            should,
+        )?;
+    }
+    t = t.number(out, 0x7F, passing(0x00, 0x7F, offer), 128)?;
     t.report(
         out,
         b"offered bytes, and the rule for all 128 (01, 000 5.1.4.2)",
@@ -121,16 +123,21 @@ pub fn offers(out: &mut impl Write) -> io::Result<()> {
 // Every byte: the ninth bit makes all nine odd; flips 0 to 7 turn its parity, and 8 leaves it.
 pub fn every_byte(out: &mut impl Write) -> io::Result<()> {
     let mut t = Tally::new();
-    t = t.number(out, 0xFF, passing(Test::Ninth, 0x00, 0xFF), 256)?;
-    t = t.number(out, 0, passing(Test::Turns(0), 0x00, 0xFF), 256)?;
-    t = t.number(out, 1, passing(Test::Turns(1), 0x00, 0xFF), 256)?;
-    t = t.number(out, 2, passing(Test::Turns(2), 0x00, 0xFF), 256)?;
-    t = t.number(out, 3, passing(Test::Turns(3), 0x00, 0xFF), 256)?;
-    t = t.number(out, 4, passing(Test::Turns(4), 0x00, 0xFF), 256)?;
-    t = t.number(out, 5, passing(Test::Turns(5), 0x00, 0xFF), 256)?;
-    t = t.number(out, 6, passing(Test::Turns(6), 0x00, 0xFF), 256)?;
-    t = t.number(out, 7, passing(Test::Turns(7), 0x00, 0xFF), 256)?;
-    t = t.number(out, 8, passing(Test::Stays(8), 0x00, 0xFF), 256)?;
+    t = t.number(out, 0xFF, passing(0x00, 0xFF, ninth), 256)?;
+    for k in 0..8 {
+        t = t.number(
+            out,
+            k as u32,
+            passing(0x00, 0xFF, |byte| turns(k, byte)),
+            256,
+        )?;
+    }
+    t = t.number(
+        out,
+        8,
+        passing(0x00, 0xFF, |byte| parity::flipped(8, byte) == byte),
+        256,
+    )?;
     t.report(
         out,
         b"ninth bit and flips 0 to 8 of every byte (000 5.1.2.3.3, by 01's rules)",

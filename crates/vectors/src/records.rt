@@ -8,48 +8,37 @@ use std::io;
 use std::io::Write;
 use tally::Tally;
 
-// How many cells of a record are what they should be; none of one over 1,024 cells.
+// How many there are, as a number for a tally.
+fn many(count: usize) -> u32 {
+    u32::try_from(count).unwrap_or(u32::MAX)
+}
+
+// How many cells of a record are what they should be.
 fn agreeing(cells: &[u16], should: &[u16]) -> u32 {
-    let mut count: u32 = 0;
-    if 1024 < cells.len() {
-        return count;
-    }
-    if cells.len() != should.len() {
-        return count;
-    }
-    let mut i: usize = 0;
-    while i < cells.len() {
-        if cells[i] == should[i] {
-            count += 1;
-        }
-        i += 1;
-    }
-    count
+    let right = cells
+        .iter()
+        .zip(should)
+        .filter(|(cell, should)| cell == should);
+    many(right.count())
 }
 
-// The clocks of a record; none of one over 1,024 cells.
+// The clocks of a record.
 fn clocks(cells: &[u16]) -> u32 {
-    let mut sum: u32 = 0;
-    if 1024 < cells.len() {
-        return sum;
-    }
-    let mut i: usize = 0;
-    while i < cells.len() {
-        sum += parity::clocks(cells[i]) as u32;
-        i += 1;
-    }
-    sum
+    cells
+        .iter()
+        .map(|cell| parity::clocks(*cell) as u32)
+        .fold(0, u32::saturating_add)
 }
 
-// One record of n cells against the cells and clocks that it should have.
-pub fn record(
+// One record against the cells and clocks that it should have.
+pub fn record<const N: usize>(
     out: &mut impl Write,
     t: Tally,
-    cells: &[u16],
-    should: &[u16],
-    n: u32,
+    cells: &[u16; N],
+    should: &[u16; N],
     clocked: u32,
 ) -> io::Result<Tally> {
+    let n = many(N);
     t.number(out, n, agreeing(cells, should), n)?
         .number(out, n, clocks(cells), clocked)
 }
@@ -58,7 +47,7 @@ pub fn record(
 pub fn named(out: &mut impl Write) -> io::Result<()> {
     let mut t = Tally::new();
     let nobody = [START, BROADCAST_WRITE_SILENT, STOP];
-    t = record(out, t, &nobody, &[512, 505, 514], 3, 9)?;
+    t = record(out, t, &nobody, &[512, 505, 514], 9)?;
     let served = [
         START,
         BROADCAST_WRITE_ANSWERED,
@@ -67,13 +56,13 @@ pub fn named(out: &mut impl Write) -> io::Result<()> {
         BROADCAST_READ_SILENT,
         STOP,
     ];
-    t = record(out, t, &served, &[512, 504, 14, 513, 507, 514], 6, 27)?;
+    t = record(out, t, &served, &[512, 504, 14, 513, 507, 514], 27)?;
     let reset = [START, BROADCAST_WRITE_ANSWERED, RESET_ALL, STOP];
-    t = record(out, t, &reset, &[512, 504, 13, 514], 4, 18)?;
+    t = record(out, t, &reset, &[512, 504, 13, 514], 18)?;
     let allowed = [START, BROADCAST_WRITE_ANSWERED, ALLOW, JOINING, STOP];
-    t = record(out, t, &allowed, &[512, 504, 1, 16, 514], 5, 27)?;
+    t = record(out, t, &allowed, &[512, 504, 1, 16, 514], 27)?;
     let refused = [START, HOT_JOIN_REFUSED, STOP];
-    t = record(out, t, &refused, &[512, 9, 514], 3, 9)?;
+    t = record(out, t, &refused, &[512, 9, 514], 9)?;
     let silenced = [
         START,
         HOT_JOIN_ANSWERED,
@@ -83,7 +72,7 @@ pub fn named(out: &mut impl Write) -> io::Result<()> {
         JOINING,
         STOP,
     ];
-    t = record(out, t, &silenced, &[512, 8, 513, 504, 2, 16, 514], 7, 36)?;
+    t = record(out, t, &silenced, &[512, 8, 513, 504, 2, 16, 514], 36)?;
     t.report(
         out,
         b"records of named cells, and their clocks (01, by 01's rules)",
@@ -106,7 +95,7 @@ pub fn direct(out: &mut impl Write) -> io::Result<()> {
         to_09,
         STOP,
     ];
-    t = record(out, t, &set, &[512, 504, 271, 513, 320, 37, 514], 7, 36)?;
+    t = record(out, t, &set, &[512, 504, 271, 513, 320, 37, 514], 36)?;
     let moved = [
         START,
         BROADCAST_WRITE_ANSWERED,
@@ -116,7 +105,7 @@ pub fn direct(out: &mut impl Write) -> io::Result<()> {
         to_0b,
         STOP,
     ];
-    t = record(out, t, &moved, &[512, 504, 273, 513, 36, 44, 514], 7, 36)?;
+    t = record(out, t, &moved, &[512, 504, 273, 513, 36, 44, 514], 36)?;
     t.report(
         out,
         b"records of a set and a move, and their clocks (by 01's rules)",
@@ -159,7 +148,6 @@ fn round(
         &[
             506, 1026, 1024, 1024, 1024, fourth, 1024, 1030, 1089, should, 513,
         ],
-        11,
         82,
     )
 }
@@ -168,11 +156,11 @@ fn round(
 pub fn example(out: &mut impl Write) -> io::Result<()> {
     let mut t = Tally::new();
     let opening = [START, BROADCAST_WRITE_ANSWERED, ASSIGN, REPEATED_START];
-    t = record(out, t, &opening, &[512, 504, 14, 513], 4, 18)?;
+    t = record(out, t, &opening, &[512, 504, 14, 513], 18)?;
     t = round(out, t, 0x00, 0x08, false, 33)?;
     t = round(out, t, 0x00, 0x08, true, 32)?;
     t = round(out, t, 0x10, 0x09, true, 38)?;
     let ending = [BROADCAST_READ_SILENT, STOP];
-    t = record(out, t, &ending, &[507, 514], 2, 9)?;
+    t = record(out, t, &ending, &[507, 514], 9)?;
     t.report(out, b"the example run, piece by piece, and its clocks (01)")
 }

@@ -3,4 +3,4 @@ use Rattle.std.proofs.Common.{◌≤◌}
 use Rattle.vectors.proofs.sweep.passing.Given as goal
 
 abbrev pub invariant-loop-byte : goal.invariant-loop-byte
-invariant-loop-byte l = l.count ≤ l.byte
+invariant-loop-byte g l = l.count ≤ l.byte

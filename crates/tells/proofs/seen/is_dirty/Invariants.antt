@@ -1,9 +1,0 @@
--- `tells::seen::is_dirty` is safe, and ends after 32 places.
-use Rattle.std.proofs.Common.{◌-◌, ◌≤◌}
-use Rattle.tells.proofs.seen.is_dirty.Given as goal
-
-abbrev pub invariant-loop-i : goal.invariant-loop-i
-invariant-loop-i l = l.i ≤ 32
-
-abbrev pub decreases-loop-i : goal.decreases-loop-i
-decreases-loop-i l = 32 - l.i
