@@ -1,5 +1,5 @@
 -- Laws of the numbers of refusals.
-use Rattle.std.specs.Prelude.{ℕ, ◌≡◌, Result, Ok, Err}
+use Rattle.std.specs.Prelude.{◌≡◌}
 use native.Mathlib.Omega.{arith}
 use Rattle.refusals.specs.declared.Refusal.{Refusal}
 use Rattle.refusals.specs.declared.Refusal.TheVariants.{FactsWrong, OutOfRange, NotOpen, Held, Full, NoFreeAddress, NoTicketLeft, TicketUnknown, TicketRetired, WrongMoment, TooFewLent, UnknownChoice, TooLong, NoLayout, NoRoom, TooManyBoards, FlipOver8, SheetWrong, BrokenMachine}
