@@ -21,7 +21,8 @@ pub const NO_BOARD: Board = Board {
 };
 
 // What a run over a lent list hands back: the machine, how many cells it wrote, its ending, the answered rounds and the clocks of these cells, and its
-// refusal, 0 for none. A refused run has the machine as given, and 0 in every other number. The boards are in the list.
+// refusal, 0 for none. A refused run has the machine as given, and 0 in every other number. The boards are in the list. (No `Result`: document 01 has the
+// counters and the refusal side by side in the bench's result, and the theorems on runs speak of these fields.)
 #[derive(Clone, Copy)]
 pub struct Report {
     pub machine: Machine,
@@ -32,18 +33,19 @@ pub struct Report {
     pub refusal: u8,
 }
 
-// What is reported of a run by value.
-fn report_of(ran: Ran) -> Report
-    ensures { result ≡ reported ran }
-{
-    let machine = ran.machine;
-    Report {
-        machine,
-        count: ran.count,
-        ending: ran.ending,
-        rounds: ran.rounds,
-        clocks: ran.clocks,
-        refusal: ran.refusal,
+// What is reported of a run by value: all but its boards.
+impl From<Ran> for Report {
+    ghost from_gives = { λ ran report. report ≡ reported ran };
+
+    fn from(ran: Ran) -> Report {
+        Report {
+            machine: ran.machine,
+            count: ran.count,
+            ending: ran.ending,
+            rounds: ran.rounds,
+            clocks: ran.clocks,
+            refusal: ran.refusal,
+        }
     }
 }
 
@@ -54,11 +56,11 @@ pub fn run(machine: Machine, boards: &mut [Board], flips: &[u8], cells: &mut [u1
     ensures cells_after { cells.new ≡ lay (lent_cells machine boards.old flips.now (length cells.old)) cells.old }
 {
     let count = boards.len();
-    let copied = copies::at_most(count, 32);
-    let places = copies::load(boards, copies::empty_places(), copied);
+    let copied = count.min(32);
+    let places = copies::load(boards, copied);
     let ran = bench::run(machine, places, count, flips, cells);
-    copies::save(boards, ran.boards, copied);
-    report_of(ran)
+    copies::save(boards, &ran.boards, copied);
+    Report::from(ran)
 }
 
 // What a run over boards of the caller's own hands back: the report, and the boards.
@@ -66,13 +68,6 @@ pub fn run(machine: Machine, boards: &mut [Board], flips: &[u8], cells: &mut [u1
 pub struct Owned {
     pub report: Report,
     pub boards: [Board; 40],
-}
-
-// The two together.
-fn owned_of(report: Report, boards: [Board; 40]) -> Owned
-    ensures { result ≡ record { report = report; boards = boards } }
-{
-    Owned { report, boards }
 }
 
 // The same for a caller with boards by value, who then lends nothing but flips and cells: the first `count` of its 40 places are lent for it, all 40 if
@@ -87,7 +82,7 @@ pub fn run_owned(
     ensures value { result ≡ owned_run machine boards count flips.now (length cells.old) }
     ensures cells_after { cells.new ≡ lay (owned_cells machine boards count flips.now (length cells.old)) cells.old }
 {
-    let many = copies::at_most(count, 40);
+    let many = count.min(40);
     let report = run(machine, &mut boards[..many], flips, cells);
-    owned_of(report, boards)
+    Owned { report, boards }
 }

@@ -1,55 +1,18 @@
--- Laws of text put into a lent buffer: fixed bytes, one after the other, and the digits of a number in hex and in decimal.
+-- Laws of the digits of a number, in hex and in decimal.
 use Prim.Native.Nat.{ℕ, zero, suc, ◌+◌, ◌-◌, ◌*◌, ◌/◌, ◌%◌, ◌^◌, ◌<◌, ◌≤◌}
-use mathlib.Core.Path.{◌≡◌, refl, sym, ◌∙◌}
+use mathlib.Core.Path.{◌≡◌, refl, sym, ap, ◌∙◌}
 use mathlib.Core.Logic.{◌⊎◌, inl, inr, ⊎_elim}
 use mathlib.Core.Bool.{Bool, true, false, cond}
 use mathlib.Core.List.{List, [], ◌∷◌, ◌++◌}
-use native.Mathlib.Nat.{pow-suc, pow-le-pow_right, zero-lt-suc, zero-add, suc-add}
+use native.Mathlib.Nat.{pow-suc}
 use native.Mathlib.Numerals.{add-one, sub-one}
 use native.Mathlib.Omega.{arith}
 use lib.Dec.{ltb}
-use lib.ListN.{length, get_or, take, set, length-append, length-take, take-append-drop}
-use lib.Seq.{take-suc, take_all}
+use lib.ListN.{length, get_or, length-append}
 use borrow.Author.Tests.{lt-ltb, le-ltb, ltb-true, ltb-false}
-use Rattle.lists.specs.Buffers.{lay_at}
-use Rattle.lists.proofs.Buffers.{lay_at_on, lay_at_one, lay_at-length}
+use Rattle.std.proofs.lemmas.Fmt.{AppendsLastDigit, decimal_from_appends, length-decimal-le}
+use Rattle.std.specs.Fmt as library
 use Rattle.listing.specs.Text.{digit, hex, decimal}
-
--- ---- fixed bytes
-
--- the first i bytes stand from the place `at` on
-pub record Standing (bytes : List ℕ) (at : ℕ) (buffer out : List ℕ) (i : ℕ) : Type 0 where
-  pub room : at + length bytes ≤ length buffer
-  pub inside : i ≤ length bytes
-  pub same : out ≡ lay_at at (take i bytes) buffer
-
-module _ {bytes : List ℕ} {at : ℕ} {buffer : List ℕ} where
-  pub standing_start : at + length bytes ≤ length buffer → Standing bytes at buffer buffer 0
-  standing_start h = record { room = h; inside = omega arith; same = sym (take-append-drop at buffer) }
-
-module _ {bytes : List ℕ} {at : ℕ} {buffer out : List ℕ} {i : ℕ} (v : Standing bytes at buffer out i) where
-  standing_count : length (take i bytes) ≡ i
-  standing_count = rw length-take (omega (arith, v.inside))
-
-  pub standing_length : length out ≡ length buffer
-  standing_length = rw v.same (lay_at-length at i (take i bytes) buffer standing_count (omega (arith, v.room, v.inside)))
-
-  pub standing_turn : i < length bytes → Standing bytes at buffer (set out (at + i) (get_or bytes i 0)) (i + 1)
-  standing_turn b = record {
-    room = v.room;
-    inside = omega arith;
-    same = rw (v.same, lay_at_one at i (take i bytes) buffer (get_or bytes i 0) standing_count (omega (arith, v.room)), add-one, take-suc bytes i 0 b);
-  }
-
-  pub standing_ended : length bytes ≤ i → out ≡ lay_at at bytes buffer
-  standing_ended b = rw (← take_all i bytes b) v.same
-
--- ---- digits
-
--- a digit behind the n that were just put
-behind : (at n : ℕ) (x buffer : List ℕ) (d : ℕ) → length x ≡ n → at + n ≤ length buffer → {last : ℕ} {between after : List ℕ}
-    → last ≡ at + n → between ≡ lay_at at x buffer → after ≡ lay_at last (d ∷ []) between → after ≡ lay_at at (x ++ (d ∷ [])) buffer
-behind at n x buffer d l h p q r = rw (r, p, q, ← l) (lay_at_on at x (d ∷ []) buffer (omega arith))
 
 -- ---- hex digits
 
@@ -60,22 +23,15 @@ hex_long zero n = refl
 hex_long (suc k) n = rw (length-append, hex_long k (n / 16)) (add-one k)
 
 -- none, where none is asked for
-pub hex_none : (at k n : ℕ) (buffer : List ℕ) → k ≡ 0 → buffer ≡ lay_at at (hex k n) buffer
+pub hex_none : (k n : ℕ) → k ≡ 0 → hex k n ≡ []
 unfolding hex
-hex_none at k n buffer e = rw e (sym (take-append-drop at buffer))
+hex_none k n e = rw e
 
 -- those of its sixteenth, and then its last one
-hex_last : (k n : ℕ) → (k ≡ 0 → ⊥) → hex k n ≡ hex (k - 1) (n / 16) ++ (digit (n % 16) ∷ [])
+pub hex_last : (k n : ℕ) → (k ≡ 0 → ⊥) → hex k n ≡ hex (k - 1) (n / 16) ++ (digit (n % 16) ∷ [])
 unfolding hex
 hex_last zero n h = absurd (h refl)
 hex_last (suc k) n h = rw sub-one
-
--- the last one behind those of its sixteenth
-pub hex_behind : (at k n : ℕ) (buffer : List ℕ) → at + k ≤ length buffer → (k ≡ 0 → ⊥) → {last : ℕ} {between after : List ℕ}
-    → last ≡ at + (k - 1) → between ≡ lay_at at (hex (k - 1) (n / 16)) buffer → after ≡ lay_at last (digit (n % 16) ∷ []) between
-    → after ≡ lay_at at (hex k n) buffer
-hex_behind at k n buffer h some p q r =
-    rw (hex_last k n some) (behind at (k - 1) (hex (k - 1) (n / 16)) buffer (digit (n % 16)) (hex_long (k - 1) (n / 16)) (omega arith) p q r)
 
 -- ---- decimal digits
 
@@ -115,46 +71,23 @@ tenth_some : (k n : ℕ) → n < 10 ^ suc k → 10 ≤ n → 0 < k
 tenth_some zero n h s = omega arith
 tenth_some (suc k) n h s = omega arith
 
--- one more digit allowed changes nothing
-pub decimal_more : (k n : ℕ) → n < 10 ^ k → 0 < k → decimal (suc k) n ≡ decimal k n
-decimal_more zero n h p = absurd (omega arith)
-decimal_more (suc k) n h p =
-    ⊎_elim
-    (λ s. decimal_one (suc k) n s ∙ sym (decimal_one k n s))
-    (λ s. rw (decimal_last (suc k) n s, decimal_last k n s, decimal_more k (n / 10) (tenth k n h) (tenth_some k n h s)))
-    (one_or_more n)
+-- they are the library's, where so many are enough
+digit_code : (n : ℕ) → n < 10 → digit n ≡ 48 + n
+digit_code n h = rw (lt-ltb n 10 h)
 
--- nor do any more
-pub decimal_fits : (j k n : ℕ) → n < 10 ^ k → 0 < k → decimal (j + k) n ≡ decimal k n
-decimal_fits zero k n h p = rw zero-add
-decimal_fits (suc j) k n h p =
-    let l : 10 ^ k ≤ 10 ^ (j + k) = pow-le-pow_right (zero-lt-suc 9) (omega arith) in
-    rw suc-add (decimal_more (j + k) n (omega arith) (omega arith) ∙ decimal_fits j k n h p)
+appends : AppendsLastDigit decimal
+appends = record {
+  one = λ k n h. decimal_one k n h ∙ ap (λ c. c ∷ []) (digit_code n h);
+  more = λ k n h. decimal_last k n h ∙ ap (λ c. decimal k (n / 10) ++ (c ∷ [])) (digit_code (n % 10) (omega arith));
+}
+
+pub printed : (n : ℕ) → n < 2 ^ 64 → library.decimal n ≡ decimal 20 n
+printed n h = sym (decimal_from_appends decimal appends 20 n h (length-decimal-le 20 n (omega arith) (omega arith) h))
 
 -- a ticket is a number of 32 bits
 pub ticket_digits : (n : ℕ) → n < 4294967296 → decimal 20 n ≡ decimal 10 n
-ticket_digits n h = decimal_fits 10 10 n (omega arith) (omega arith)
-
--- ---- a number of 64 bits in decimal
-
--- its tenth, and then its last digit
-decimal_tenth : (n : ℕ) → 10 ≤ n → n < 18446744073709551616 → decimal 20 n ≡ decimal 20 (n / 10) ++ (digit (n % 10) ∷ [])
-decimal_tenth n h b = decimal_last 19 n h ∙ rw (decimal_more 19 (n / 10) (omega arith) (omega arith))
-
--- one digit, or one more than its tenth has
-pub decimal_length_one : (n : ℕ) → n < 10 → length (decimal 20 n) ≡ 1
-decimal_length_one n h = rw (decimal_one 19 n h)
-
-pub decimal-length : (n : ℕ) → 10 ≤ n → n < 18446744073709551616 → length (decimal 20 n) ≡ length (decimal 20 (n / 10)) + 1
-decimal-length n h b = rw (decimal_tenth n h b) (length-append (decimal 20 (n / 10)) (digit (n % 10) ∷ []))
-
--- the last digit behind those of its tenth
-pub decimal_behind : (at n : ℕ) (buffer : List ℕ) → at + length (decimal 20 n) ≤ length buffer → 10 ≤ n → n < 18446744073709551616
-    → {last : ℕ} {between after : List ℕ} → last ≡ at + length (decimal 20 (n / 10)) → between ≡ lay_at at (decimal 20 (n / 10)) buffer
-    → after ≡ lay_at last (digit (n % 10) ∷ []) between → after ≡ lay_at at (decimal 20 n) buffer
-decimal_behind at n buffer h t b p q r =
-    let x : List ℕ = decimal 20 (n / 10) in
-    rw (decimal_tenth n t b) (behind at (length x) x buffer (digit (n % 10)) refl (omega (arith, decimal-length n t b)) p q r)
+ticket_digits n h =
+    sym (printed n (omega arith)) ∙ sym (decimal_from_appends decimal appends 10 n (omega arith) (length-decimal-le 10 n (omega arith) (omega arith) (omega arith)))
 
 -- ---- digits read back
 

@@ -6,98 +6,96 @@
 //     end 0 rounds 3 clocks 273
 #![tactic(auto)]
 
-ghost use Rattle.std.specs.Prelude.{◌≡◌, ◌+◌, ◌≤◌, cond, [], length};
-ghost use Rattle.lists.specs.Buffers.{lay, lay_at};
+ghost use Rattle.std.specs.Prelude.{◌≡◌, cond, [], length};
+ghost use Rattle.lists.specs.Buffers.{lay};
 ghost use Rattle.rows.specs.Rows.{in_use};
 ghost use Rattle.listing.specs.Listing.{header, row_line, row_lines, end_line, listing, refusal_line, lent};
+ghost use Rattle.listing.specs.Puts.{Fits, Puts};
 
 mod text;
 
 use rows::Row;
+use text::Text;
 
 // The bytes that must be lent: no listing is longer.
 pub const MOST_BYTES: usize = 1100;
 
 // The line that every listing opens with.
-fn put_header(out: &mut [u8]) -> usize
-    requires { length header ≤ length out.old }
-    ensures value { result ≡ length header }
-    ensures out_after { out.new ≡ lay header out.old }
+fn put_header(text: &mut Text)
+    requires { Fits text.old header }
+    ensures { Puts text.old text.new header }
 {
-    text::put(b"addr ticket identity\n", 0, out)
+    text.put(b"addr ticket identity\n");
 }
 
 // The line of a row.
-fn put_row(row: Row, at: usize, out: &mut [u8]) -> usize
-    requires { at + length (row_line row) ≤ length out.old }
-    ensures value { result ≡ at + length (row_line row) }
-    ensures out_after { out.new ≡ lay_at at (row_line row) out.old }
+#[tactic(auto, using(crate::proofs::Lines::row_long, crate::proofs::Lines::row_digits, crate::proofs::Digits::hex_long))]
+fn put_row(row: &Row, text: &mut Text)
+    requires { Fits text.old (row_line row.now) }
+    ensures { Puts text.old text.new (row_line row.now) }
 {
-    let address = text::put_hex(row.address as u64, 2, at, out);
-    let space = text::put(b" ", address, out);
-    let ticket = text::put_decimal(row.ticket as u64, space, out);
-    let again = text::put(b" ", ticket, out);
-    let identity = text::put_hex(row.identity, 16, again, out);
-    text::put(b"\n", identity, out)
+    text.put_hex(row.address as u64, 2);
+    text.put(b" ");
+    text.put_decimal(row.ticket as u64);
+    text.put(b" ");
+    text.put_hex(row.identity, 16);
+    text.put(b"\n");
 }
 
 // The line of a place: none if it is unused.
-fn put_place(row: Row, at: usize, out: &mut [u8]) -> usize
-    requires { at + length (cond (in_use row) (row_line row) []) ≤ length out.old }
-    ensures value { result ≡ at + length (cond (in_use row) (row_line row) []) }
-    ensures out_after { out.new ≡ lay_at at (cond (in_use row) (row_line row) []) out.old }
+fn put_place(row: &Row, text: &mut Text)
+    requires { Fits text.old (cond (in_use row.now) (row_line row.now) []) }
+    ensures { Puts text.old text.new (cond (in_use row.now) (row_line row.now) []) }
 {
-    if row.address == 0 {
-        return at;
+    if row.address != 0 {
+        put_row(row, text);
     }
-    put_row(row, at, out)
 }
 
 // The lines of the rows, in the order in which they stand.
-fn put_rows(rows: [Row; 32], from: usize, out: &mut [u8]) -> usize
-    requires { from + length (row_lines rows) ≤ length out.old }
-    ensures value { result ≡ from + length (row_lines rows) }
-    ensures out_after { out.new ≡ lay_at from (row_lines rows) out.old }
+fn put_rows(rows: &[Row; 32], text: &mut Text)
+    requires { Fits text.old (row_lines rows.now) }
+    ensures { Puts text.old text.new (row_lines rows.now) }
 {
-    let mut at = from;
-    let mut i: usize = 0;
-    while i < 32 {
-        at = put_place(rows[i], at, out);
-        i += 1;
+    for row in rows {
+        put_place(row, text);
     }
-    at
 }
 
 // The last line: how the run ended, its answered rounds and its clocks.
-fn put_end(ending: u8, rounds: usize, clocks: usize, at: usize, out: &mut [u8]) -> usize
-    requires { at + length (end_line ending rounds clocks) ≤ length out.old }
-    ensures value { result ≡ at + length (end_line ending rounds clocks) }
-    ensures out_after { out.new ≡ lay_at at (end_line ending rounds clocks) out.old }
+#[tactic(auto, using(crate::proofs::Lines::end_long))]
+fn put_end(ending: u8, rounds: usize, clocks: usize, text: &mut Text)
+    requires { Fits text.old (end_line ending rounds clocks) }
+    ensures { Puts text.old text.new (end_line ending rounds clocks) }
 {
-    let end = text::put(b"end ", at, out);
-    let ended = text::put_decimal(ending as u64, end, out);
-    let round = text::put(b" rounds ", ended, out);
-    let counted = text::put_decimal(rounds as u64, round, out);
-    let clock = text::put(b" clocks ", counted, out);
-    let summed = text::put_decimal(clocks as u64, clock, out);
-    text::put(b"\n", summed, out)
+    text.put(b"end ");
+    text.put_decimal(ending as u64);
+    text.put(b" rounds ");
+    text.put_decimal(rounds as u64);
+    text.put(b" clocks ");
+    text.put_decimal(clocks as u64);
+    text.put(b"\n");
 }
 
 // The listing of these rows and of a run that ended so, from the first place of the lent bytes on; says its length. Lent fewer than 1,100 bytes, it
 // writes nothing and says 0.
-pub fn write(rows: [Row; 32], ending: u8, rounds: usize, clocks: usize, out: &mut [u8]) -> usize
-    ensures value { result ≡ length (lent (length out.old) (listing rows ending rounds clocks)) }
-    ensures out_after { out.new ≡ lay (lent (length out.old) (listing rows ending rounds clocks)) out.old }
+#[tactic(auto, using(crate::proofs::Lines::header_long, crate::proofs::Lines::rows_short, crate::proofs::Lines::end_short))]
+pub fn write(rows: &[Row; 32], ending: u8, rounds: usize, clocks: usize, out: &mut [u8]) -> usize
+    ensures value { result ≡ length (lent (length out.old) (listing rows.now ending rounds clocks)) }
+    ensures out_after { out.new ≡ lay (lent (length out.old) (listing rows.now ending rounds clocks)) out.old }
 {
     if out.len() < MOST_BYTES {
         return 0;
     }
-    let header = put_header(out);
-    let lines = put_rows(rows, header, out);
-    put_end(ending, rounds, clocks, lines, out)
+    let mut text = Text::new(out);
+    put_header(&mut text);
+    put_rows(rows, &mut text);
+    put_end(ending, rounds, clocks, &mut text);
+    text.at
 }
 
 // The line `refused N`, which stands in the place of a listing; lent as a listing is.
+#[tactic(auto, using(crate::proofs::Digits::decimal_short))]
 pub fn write_refusal(refusal: u8, out: &mut [u8]) -> usize
     ensures value { result ≡ length (lent (length out.old) (refusal_line refusal)) }
     ensures out_after { out.new ≡ lay (lent (length out.old) (refusal_line refusal)) out.old }
@@ -105,7 +103,9 @@ pub fn write_refusal(refusal: u8, out: &mut [u8]) -> usize
     if out.len() < MOST_BYTES {
         return 0;
     }
-    let word = text::put(b"refused ", 0, out);
-    let number = text::put_decimal(refusal as u64, word, out);
-    text::put(b"\n", number, out)
+    let mut text = Text::new(out);
+    text.put(b"refused ");
+    text.put_decimal(refusal as u64);
+    text.put(b"\n");
+    text.at
 }

@@ -1,21 +1,13 @@
-// Text put into a lent buffer from a place on; each function says the place behind what it put.
-ghost use Rattle.std.specs.Prelude.{◌≡◌, ◌+◌, ◌≤◌, ◌<◌, [], ◌∷◌, length};
-ghost use Rattle.lists.specs.Buffers.{lay_at};
-ghost use Rattle.listing.specs.Text.{hex, decimal};
-ghost use Rattle.listing.specs.Text.{digit};
+// Text put into a lent buffer, one part behind the other. (Not by `write!`: its contract lets it fail, and a listing is promised outright.)
+ghost use Rattle.std.specs.Prelude.{◌≡◌, ◌<◌};
+ghost use Rattle.listing.specs.Text.{digit, hex, decimal};
+ghost use Rattle.listing.specs.Puts.{Fits, Puts};
 
-// Fixed bytes.
-pub fn put(bytes: &[u8], at: usize, out: &mut [u8]) -> usize
-    requires { at + length bytes.now ≤ length out.old }
-    ensures value { result ≡ at + length bytes.now }
-    ensures out_after { out.new ≡ lay_at at bytes.now out.old }
-{
-    let mut i: usize = 0;
-    while i < bytes.len() {
-        out[at + i] = bytes[i];
-        i += 1;
-    }
-    at + bytes.len()
+// A lent buffer, and how many bytes of text stand at its front: the next is put behind them.
+#[derive(Drop)]
+pub struct Text<'a> {
+    out: &'a mut [u8],
+    pub at: usize,
 }
 
 // The character of a digit: 0 to 9, then A to F.
@@ -31,38 +23,44 @@ fn digit(d: u64) -> u8
     }
 }
 
-// One digit.
-fn put_digit(d: u64, at: usize, out: &mut [u8]) -> usize
-    requires { (d < 16) × (at < length out.old) }
-    ensures value { result ≡ at + 1 }
-    ensures out_after { out.new ≡ lay_at at (digit d ∷ []) out.old }
-{
-    out[at] = digit(d);
-    at + 1
-}
-
-// The lowest so many hex digits of a number, highest first.
-pub fn put_hex(n: u64, digits: usize, at: usize, out: &mut [u8]) -> usize
-    requires { at + digits ≤ length out.old }
-    ensures value { result ≡ at + digits }
-    ensures out_after { out.new ≡ lay_at at (hex digits n) out.old }
-{
-    if digits == 0 {
-        return at;
+impl<'a> Text<'a> {
+    // No text.
+    pub fn new(out: &'a mut [u8]) -> Text<'a>
+        ensures lent { result.out.ghost_name ≡ out.entry.ghost_name }
+        ensures same { result.out.now ≡ out.old }
+        ensures none { result.at ≡ 0 }
+    {
+        Text { out, at: 0 }
     }
-    let last = put_hex(n / 16, digits - 1, at, out);
-    put_digit(n % 16, last, out)
-}
 
-// A number in decimal, without leading zeros.
-pub fn put_decimal(n: u64, at: usize, out: &mut [u8]) -> usize
-    requires { at + length (decimal 20 n) ≤ length out.old }
-    ensures value { result ≡ at + length (decimal 20 n) }
-    ensures out_after { out.new ≡ lay_at at (decimal 20 n) out.old }
-{
-    if n < 10 {
-        return put_digit(n, at, out);
+    // Fixed bytes.
+    pub fn put(&mut self, bytes: &[u8])
+        requires { Fits self.old bytes.now }
+        ensures { Puts self.old self.new bytes.now }
+    {
+        let end = self.at + bytes.len();
+        self.out[self.at..end].copy_from_slice(bytes);
+        self.at = end;
     }
-    let last = put_decimal(n / 10, at, out);
-    put_digit(n % 10, last, out)
+
+    // The lowest so many hex digits of a number, highest first.
+    pub fn put_hex(&mut self, n: u64, digits: usize)
+        requires { Fits self.old (hex digits n) }
+        ensures { Puts self.old self.new (hex digits n) }
+    {
+        if digits == 0 {
+            return;
+        }
+        self.put_hex(n / 16, digits - 1);
+        self.put(&[digit(n % 16)]);
+    }
+
+    // A number in decimal, without leading zeros.
+    pub fn put_decimal(&mut self, n: u64)
+        requires { Fits self.old (decimal 20 n) }
+        ensures { Puts self.old self.new (decimal 20 n) }
+    {
+        let mut digits = itoa::Buffer::new();
+        self.put(digits.format(n).as_bytes());
+    }
 }

@@ -1,6 +1,7 @@
 -- The numbers that the paper gives the refusals.
-use Rattle.std.specs.Prelude.{ℕ, Result, Ok, Err}
+use Rattle.std.specs.Prelude.{ℕ, ◌≡◌, Result, Ok, Err}
 use Rattle.refusals.specs.declared.Refusal.{Refusal}
+use Rattle.refusals.specs.declared.NoRefusal.{NoRefusal}
 use Rattle.refusals.specs.declared.Refusal.TheVariants.{FactsWrong, OutOfRange, NotOpen, Held, Full, NoFreeAddress, NoTicketLeft, TicketUnknown, TicketRetired, WrongMoment, TooFewLent, UnknownChoice, TooLong, NoLayout, NoRoom, TooManyBoards, FlipOver8, SheetWrong, BrokenMachine}
 
 abbrev pub number : Refusal → ℕ
@@ -28,3 +29,8 @@ number BrokenMachine = 28
 abbrev pub refusal_of : {A : Type 0} → Result A Refusal → ℕ
 refusal_of (Ok _) = 0
 refusal_of (Err r) = number r
+
+-- what a number says: the refusal that has it, and that there is none only where none has it
+abbrev pub NumberOf : ℕ → Result Refusal NoRefusal → Type 0
+NumberOf n (Ok r) = number r ≡ n
+NumberOf n (Err _) = (r : Refusal) → number r ≡ n → ⊥

@@ -2,7 +2,7 @@
 #![tactic(auto)]
 
 ghost use Rattle.std.specs.Prelude.{◌≡◌};
-ghost use Rattle.refusals.specs.Refusals.{number};
+ghost use Rattle.refusals.specs.Refusals.{number, NumberOf};
 
 // Why a call is refused. The first that applies is given, in the order that stands with each call.
 #[derive(Clone, Copy, Debug, PartialEq, Eq)]
@@ -53,6 +53,41 @@ impl Refusal {
             Refusal::FlipOver8 => 17,
             Refusal::SheetWrong => 18,
             Refusal::BrokenMachine => 28,
+        }
+    }
+}
+
+// A number that is no refusal's, as 0.
+#[derive(Clone, Copy, Debug, PartialEq, Eq)]
+pub struct NoRefusal;
+
+impl TryFrom<u8> for Refusal {
+    type Error = NoRefusal;
+
+    ghost try_from_gives = { NumberOf };
+
+    fn try_from(number: u8) -> Result<Refusal, NoRefusal> {
+        match number {
+            1 => Ok(Refusal::FactsWrong),
+            2 => Ok(Refusal::OutOfRange),
+            3 => Ok(Refusal::NotOpen),
+            4 => Ok(Refusal::Held),
+            5 => Ok(Refusal::Full),
+            6 => Ok(Refusal::NoFreeAddress),
+            7 => Ok(Refusal::NoTicketLeft),
+            8 => Ok(Refusal::TicketUnknown),
+            9 => Ok(Refusal::TicketRetired),
+            10 => Ok(Refusal::WrongMoment),
+            11 => Ok(Refusal::TooFewLent),
+            12 => Ok(Refusal::UnknownChoice),
+            13 => Ok(Refusal::TooLong),
+            14 => Ok(Refusal::NoLayout),
+            15 => Ok(Refusal::NoRoom),
+            16 => Ok(Refusal::TooManyBoards),
+            17 => Ok(Refusal::FlipOver8),
+            18 => Ok(Refusal::SheetWrong),
+            28 => Ok(Refusal::BrokenMachine),
+            _ => Err(NoRefusal),
         }
     }
 }

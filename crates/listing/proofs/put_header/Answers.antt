@@ -1,11 +1,10 @@
 -- `listing::put_header` meets its contract.
-use borrow.Author.Rules.{rules}
 use Rattle.listing.specs.Listing.{header}
 use Rattle.listing.proofs.put_header.Goals as goal
 
 pub put-requires : goal.put-requires
 unfolding header
-put-requires c = search rules
+put-requires c = c.requires
 
 pub returns : goal.returns
 unfolding header

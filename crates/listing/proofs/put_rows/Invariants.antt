@@ -1,9 +1,8 @@
-use Prim.Native.Nat.{◌-◌}
-use Rattle.listing.proofs.Lines.{Listed}
+use lib.ListN.{take}
+use Rattle.listing.specs.Listing.{row_lines}
+use Rattle.listing.specs.Puts.{Puts}
 use Rattle.listing.proofs.put_rows.Given as goal
 
-abbrev pub invariant-loop-i : goal.invariant-loop-i
-invariant-loop-i l = Listed l.rows l.from l.initial.out l.at l.i l.out
-
-abbrev pub decreases-loop-i : goal.decreases-loop-i
-decreases-loop-i l = 32 - l.i
+-- the lines of the places so far are put
+abbrev pub invariant-loop-row : goal.invariant-loop-row
+invariant-loop-row l = Puts l.initial.text l.text (row_lines (take l.row-index l.rows))
