@@ -275,10 +275,9 @@ impl Machine {
     // ---- listening
 
     // Eight identity bytes: their cells; then the address for that identity is offered.
-    pub(crate) fn listened(&self, bytes: &[u8], cells: &mut [u16]) -> Stepped
-        requires room { 8 ≤ length cells.old }
-        requires eight { length bytes.now ≡ 8 }
-        ensures { ComesTo (listened self.now bytes.now) cells.old result cells.new }
+    pub(crate) fn listened(&self, bytes: [u8; 8], cells: &mut [u16]) -> Stepped
+        requires { 8 ≤ length cells.old }
+        ensures { ComesTo (listened self.now bytes) cells.old result cells.new }
     {
         let identity = identities::number(bytes);
         let address = free::address_for(&self.table, identity);
