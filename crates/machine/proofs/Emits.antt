@@ -1,12 +1,11 @@
--- Every call's cells are at most eight, and fit the lent buffer.
+-- The cells of a Begin, an answer and an identity are at most eight, and fit the lent buffer.
 use Prim.Native.Nat.{ℕ, ◌≤◌}
-use mathlib.Core.Path.{◌≡◌, refl, ◌∙◌}
+use mathlib.Core.Path.{◌≡◌, refl}
 use mathlib.Core.Bool.{Bool, true, false, cond, not}
-use mathlib.Core.List.{List, ◌++◌}
+use mathlib.Core.List.{List}
 use native.Mathlib.Omega.{arith}
 use lib.Dec.{eqb, ltb}
-use lib.ListN.{length, take, drop, replicate, length-map}
-use lib.Seq.{take-take, take-append_seam}
+use lib.ListN.{length, length-map}
 use borrow.Author.Tests.{ltb-false, eqb-true}
 use Rattle.lists.proofs.Bools.{cond_by}
 use Rattle.machine.proofs.Laws.{eight_bytes}
@@ -15,9 +14,9 @@ use Rattle.machine.specs.declared.Machine.{Machine}
 use Rattle.machine.specs.declared.Moment.{Moment}
 use Rattle.machine.specs.declared.Moment.TheVariants.{Idle, Opened, Round, Listening, Offered, Direct}
 use Rattle.machine.specs.Moments.{machine_right}
-use Rattle.machine.specs.Refusals.{step_refusal, begin_refusal, join_refusal, identity_refusal, give_up_refusal}
-use Rattle.machine.specs.Steps.{Step, refuse, beginning, joining, round_rule, commanded, opened_answer, round_answer, listened, accepted, declined, direct_answer, answer_at}
-use Rattle.machine.specs.Calls.{unless, begun, answered, identified, given_up, joined}
+use Rattle.machine.specs.Refusals.{step_refusal, begin_refusal, identity_refusal}
+use Rattle.machine.specs.Steps.{Step, refuse, beginning, round_rule, commanded, opened_answer, round_answer, listened, accepted, declined, direct_answer, answer_at}
+use Rattle.machine.specs.Calls.{unless, begun, answered, identified}
 
 -- ---- room
 
@@ -67,11 +66,7 @@ answer_short Offered m false = omega arith
 answer_short Direct m true = omega arith
 answer_short Direct m false = omega arith
 
-joining_short : (m : Machine) (choice : ℕ) → length (joining m choice).cells ≤ 8
-unfolding joining
-joining_short m choice = cond_by Short (eqb choice 0) (λ _. omega arith) (λ _. omega arith)
-
--- ---- so the cells of each call fit
+-- ---- so the cells of these calls fit
 
 module _ (m : Machine) (room : ℕ) where
   pub begun_fits : (choice static new ticket : ℕ) → Fits room (begun m choice static new ticket room)
@@ -85,11 +80,3 @@ module _ (m : Machine) (room : ℕ) where
   pub identified_fits : (bytes : List ℕ) → Fits room (identified m bytes room)
   unfolding identified identity_refusal listened
   identified_fits bytes = fits room m _ _ (λ e. omega (arith, length-map bytes identity_cell, eight_bytes m (length bytes) e))
-
-  pub given_up_fits : Fits room (given_up m room)
-  unfolding given_up give_up_refusal
-  given_up_fits = fits room m _ _ (λ _. omega arith)
-
-  pub joined_fits : (choice : ℕ) → Fits room (joined m choice room)
-  unfolding joined join_refusal
-  joined_fits choice = fits room m _ _ (λ _. joining_short m choice)

@@ -2,36 +2,36 @@
 use Prim.Native.Nat.{ℕ, ◌≤◌, ◌<◌}
 use mathlib.Core.Path.{◌≡◌, refl, sym, ap, ◌∙◌}
 use mathlib.Core.Bool.{Bool, true, false, cond, not, and-eq-true_iff}
-use mathlib.Core.List.{List, map}
+use mathlib.Core.List.{List}
 use native.Mathlib.Omega.{arith}
 use lib.Dec.{eqb, ltb}
-use lib.ListN.{length, replicate, length-map, get_or-eq_default}
-use lib.Seq.{take_at}
+use lib.ListN.{length, replicate, get_or-eq_default}
 use borrow.Author.Tests.{ltb-false, leb-true, eqb-true, eqb-false, ne_eqb, not-true, not-false}
 use Rattle.lists.proofs.Bools.{not-refused}
-use Rattle.parity.specs.Cells.{identity_cell}
 use Rattle.slots.specs.Slots.{facts_right, Checked, checked}
 use Rattle.slots.specs.declared.Facts.{Facts}
 use Rattle.rows.specs.Rows.{no_row, has_ticket, has_identity, place_of_ticket}
 use Rattle.rows.specs.declared.Row.{Row}
 use Rattle.changes.specs.Changes.{with_row, renewed}
-use Rattle.free.specs.Free.{address_for, no_ticket_left, can_assign}
+use Rattle.free.specs.Free.{no_ticket_left, can_assign}
 use Rattle.lists.proofs.Keeps.{any-find}
 use Rattle.lists.proofs.Library.{position_some, position_some_any, position_none_any, find_some, find_none}
-use Rattle.std.specs.Prelude.{Some, None, position}
+use Rattle.std.specs.Prelude.{Result, Some, None, position}
 use Rattle.std.specs.List.{find as list_find}
 use Rattle.table.specs.Sound.{sound}
 use Rattle.begins.specs.Begins.{asked_right, can_set}
 use Rattle.machine.specs.declared.Machine.{Machine}
-use Rattle.refusals.specs.Refusals.{number}
+use Rattle.refusals.specs.Refusals.{number, refusal_of}
+use Rattle.std.specs.Result.{IsErrAnd}
+use Rattle.std.proofs.lemmas.Result.{err_from_is_err_and}
 use Rattle.refusals.specs.declared.Refusal.{Refusal}
 use Rattle.refusals.proofs.Laws.{number_not_zero}
 use Rattle.machine.specs.declared.Stepped.{Stepped}
 use Rattle.machine.specs.declared.Moment.{Moment}
 use Rattle.machine.specs.declared.Moment.TheVariants.{Offered, Direct}
-use Rattle.machine.specs.Moments.{idle, offering, right_at, moment_right, machine_right, is_idle, is_listening}
+use Rattle.machine.specs.Moments.{idle, right_at, moment_right, machine_right, is_idle, is_listening}
 use Rattle.machine.specs.Refusals.{step_refusal, rest_refusal, identity_refusal, ask_refusal}
-use Rattle.machine.specs.Steps.{Step, refuse, address_of, identity_of, listened, assigned_row, accepted_rows, answer_at}
+use Rattle.machine.specs.Steps.{Step, refuse, address_of, assigned_row, accepted_rows, answer_at}
 use Rattle.machine.specs.Calls.{unless, started, asked, stepped, written}
 
 -- ---- the rules
@@ -52,6 +52,10 @@ module _ (m : Machine) {b : Bool} (e : b ≡ sound m.table.facts m.table.rows) w
   right_unsound s = rw (← e, s)
 
 -- ---- refusals
+
+-- what a `?` hands on: the callee's refusal
+pub passed_on : {A : Type 0} (r : Result A Refusal) (e : Refusal) {k : ℕ} → IsErrAnd r (λ d. d ≡ e) → number e ≡ k → refusal_of r ≡ k
+passed_on r e h same = let p = err_from_is_err_and r h in rw (p.1, p.2) same
 
 -- what a stepping call is refused for first, it is refused for before more is asked
 pub step_refused : (room : ℕ) (m : Machine) (more : ℕ) {r : ℕ} → r ≡ step_refusal room m 0 → (r ≡ 0 → ⊥) → r ≡ step_refusal room m more

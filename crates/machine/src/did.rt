@@ -1,5 +1,5 @@
 // What a call comes to: a step that writes its cells, or a refusal.
-ghost use Rattle.std.specs.Prelude.{◌≡◌, ◌≤◌, length};
+ghost use Rattle.std.specs.Prelude.{◌≡◌, ◌≤◌, [], length};
 ghost use Rattle.refusals.specs.Refusals.{number};
 ghost use Rattle.machine.specs.Steps.{did, refuse};
 ghost use Rattle.machine.specs.Calls.{stepped, ComesTo};
@@ -19,6 +19,13 @@ impl Stepped {
             count: out.len(),
             refusal: 0,
         }
+    }
+
+    // A step that is lent no cells, and writes none.
+    pub(crate) fn done(machine: Machine) -> Stepped
+        ensures { result ≡ stepped (did machine []) }
+    {
+        Stepped::did(machine, &[], &mut [])
     }
 
     // A refusal: the machine as it was given, and no cells.

@@ -20,7 +20,6 @@ mod refused;
 mod steps;
 
 use refusals::Refusal;
-use rows::NO_ROW;
 use table::Table;
 
 // The moments. What each remembers stands beside it; all else is 0.
@@ -34,8 +33,8 @@ pub enum Moment {
     Direct, // choice, asked, wanted
 }
 
-// The table, the moment, and what it remembers: the choice that was begun, the address that it asks (static for a
-// set, present for a move) and the new address wanted; the identity heard and the address that it is offered; the refusals in succession.
+// The table, the moment, and what it remembers: the choice that was begun, the address that it asks (static for a set, present for a move) and the new
+// address wanted; the identity heard and the address that it is offered; the refusals in succession.
 #[derive(Clone, Copy, Debug, PartialEq, Eq)]
 pub struct Machine {
     pub table: Table,
@@ -48,8 +47,8 @@ pub struct Machine {
     pub refusals: u8,
 }
 
-// What a call hands back: the machine, how many cells it wrote, and its refusal, 0 for none. Kept: a Result would not hand back the machine beside
-// the refusal, as document 01 has it ("the new machine with count and refusal").
+// What a call hands back: the machine, how many cells it wrote, and its refusal, 0 for none. Kept: document 01 names this form, "returning the new
+// machine with count and refusal".
 #[derive(Clone, Copy, Debug, PartialEq, Eq)]
 pub struct Stepped {
     pub machine: Machine,
@@ -62,30 +61,14 @@ pub fn start(flags: u8, legacy: &[u8], last: u32) -> Stepped
     ensures { result ≡ stepped (started (facts_of flags legacy.now last)) }
 {
     match slots::checked_facts(flags, legacy, last) {
-        Ok(facts) => Stepped {
-            machine: Machine::idle(Table {
-                facts,
-                rows: [NO_ROW; 32],
-            }),
-            count: 0,
-            refusal: 0,
-        },
-        Err(refusal) => {
-            let facts = slots::refused_facts();
-            Stepped::refused(
-                Machine::idle(Table {
-                    facts,
-                    rows: [NO_ROW; 32],
-                }),
-                refusal,
-            )
-        }
+        Ok(facts) => Stepped::done(Machine::without_rows(facts)),
+        Err(refusal) => Stepped::refused(Machine::without_rows(slots::refused_facts()), refusal),
     }
 }
 
 impl Machine {
-    // Begins, at idle: choice 0 assign, 1 reset all, 2 set from static, 3 move, 4 silence joining, 5 allow joining (`begins` names them). A set takes the static and the
-    // new address, a move the ticket and the new address; what a choice does not take is not judged.
+    // Begins, at idle: choice 0 assign, 1 reset all, 2 set from static, 3 move, 4 silence joining, 5 allow joining (`begins` names them). A set takes
+    // the static and the new address, a move the ticket and the new address; what a choice does not take is not judged.
     pub fn begin(self, choice: u8, from: u8, new: u8, ticket: u32, cells: &mut [u16]) -> Stepped
         ensures value { result ≡ stepped (begun self choice from new ticket (length cells.old)) }
         ensures cells_after { cells.new ≡ written (begun self choice from new ticket (length cells.old)) cells.old }
@@ -119,7 +102,7 @@ impl Machine {
         ensures cells_after { cells.new ≡ written (identified self bytes.now (length cells.old)) cells.old }
     {
         match self.identity_refusal(bytes.len(), cells.len()) {
-            Ok(()) => self.listened(bytes, cells),
+            Ok(()) => self.listened(identities::eight(bytes), cells),
             Err(refusal) => Stepped::refused(self, refusal),
         }
     }
@@ -153,11 +136,7 @@ impl Machine {
         match self.retire_refusal(ticket) {
             Ok(()) => {
                 let rows = steps::without(&self.table.rows, ticket);
-                Stepped {
-                    machine: Machine::idle(Table { rows, ..self.table }),
-                    count: 0,
-                    refusal: 0,
-                }
+                Stepped::done(Machine::idle(Table { rows, ..self.table }))
             }
             Err(refusal) => Stepped::refused(self, refusal),
         }

@@ -1,11 +1,14 @@
 // The machine at each of its moments, and whether what it remembers is what the rules allow.
-ghost use Rattle.std.specs.Prelude.{◌≡◌};
+ghost use Rattle.std.specs.Prelude.{◌≡◌, replicate};
+ghost use Rattle.rows.specs.Rows.{no_row};
 ghost use Rattle.machine.specs.Moments.{moment_number, Numbers, nothing_asked, nothing_offered, in_rounds, goes_direct, asks_right, right_at, moment_right, machine_right, is_idle, is_listening};
 ghost use Rattle.machine.specs.Moments.{idle, opened, direct, round, listening, offering};
 ghost use Rattle.machine.specs.declared.Moment.TheVariants.{Offered};
 
 use crate::{Machine, Moment};
 use begins::{MOVE, SET_FROM_STATIC};
+use rows::NO_ROW;
+use slots::Facts;
 use table::Table;
 
 impl Moment {
@@ -62,6 +65,16 @@ impl Machine {
             offered: 0,
             refusals: 0,
         }
+    }
+
+    // Idle, and no rows.
+    pub(crate) fn without_rows(facts: Facts) -> Machine
+        ensures { result ≡ idle facts (replicate 32 no_row) }
+    {
+        Machine::idle(Table {
+            facts,
+            rows: [NO_ROW; 32],
+        })
     }
 
     pub(crate) fn opened(table: Table, choice: u8, asked: u8, wanted: u8) -> Machine
@@ -175,7 +188,7 @@ impl Machine {
 
     // ---- moments told apart
 
-    pub(crate) fn is_idle(&self) -> bool
+    pub fn is_idle(&self) -> bool
         ensures { result ≡ is_idle self.now.moment }
     {
         self.moment == Moment::Idle

@@ -4,7 +4,7 @@ ghost use Rattle.rows.specs.Rows.{place_of_address, place_of_ticket};
 ghost use Rattle.changes.specs.Changes.{moved, without};
 ghost use Rattle.table.specs.Tickets.{ticketed};
 ghost use Rattle.machine.specs.Calls.{ComesTo};
-ghost use Rattle.machine.specs.Steps.{address_of, address_asked, address_wanted, beginning, joining, joins_for, onward_machine, onward_cell, on_to_direct, about_joining, opened_answer, round_answer, accepted_rows, offered_answer, direct_answer};
+ghost use Rattle.machine.specs.Steps.{address_of, address_asked, address_wanted, beginning, joining, onward_machine, onward_cell, on_to_direct, about_joining, opened_answer, round_answer, accepted_rows, offered_answer, direct_answer};
 ghost use Rattle.machine.specs.Steps.{commanded, listened, accepted, declined, directed};
 
 use crate::moments::goes_direct;
@@ -45,8 +45,8 @@ fn address_wanted(choice: u8, new: u8) -> u8
 }
 
 // What an answered joining is opened for: silence or assign.
-fn joins_for(choice: u8) -> u8
-    ensures { result ≡ joins_for choice }
+fn joined_for(choice: u8) -> u8
+    ensures { result ≡ cond (eqb choice 1) 4 0 }
 {
     if choice == JOIN_SILENCED {
         SILENCE
@@ -168,7 +168,7 @@ impl Machine {
                 parity::HOT_JOIN_ANSWERED,
                 parity::REPEATED_START,
             ];
-            let next = Machine::opened(self.table, joins_for(choice), 0, 0);
+            let next = Machine::opened(self.table, joined_for(choice), 0, 0);
             Stepped::did(next, &out, cells)
         }
     }
@@ -275,10 +275,9 @@ impl Machine {
     // ---- listening
 
     // Eight identity bytes: their cells; then the address for that identity is offered.
-    pub(crate) fn listened(&self, bytes: &[u8], cells: &mut [u16]) -> Stepped
-        requires room { 8 ≤ length cells.old }
-        requires eight { length bytes.now ≡ 8 }
-        ensures { ComesTo (listened self.now bytes.now) cells.old result cells.new }
+    pub(crate) fn listened(&self, bytes: [u8; 8], cells: &mut [u16]) -> Stepped
+        requires { 8 ≤ length cells.old }
+        ensures { ComesTo (listened self.now bytes) cells.old result cells.new }
     {
         let identity = identities::number(bytes);
         let address = free::address_for(&self.table, identity);

@@ -4,16 +4,19 @@ use Rattle.machine.specs.Calls.{identified}
 use Rattle.machine.specs.Refusals.{identity_refusal}
 use Rattle.machine.proofs.Machine.identity.Goals as goal
 
-pub listened-requires-clause-room : goal.listened-requires-clause-room
-unfolding identity_refusal
-listened-requires-clause-room c = room_enough _ _ _ c.in-Ok.ensures
+pub eight-requires : goal.eight-requires
+eight-requires c = eight_heard _ _ _ c.in-Ok.ensures
 
-pub listened-requires-clause-eight : goal.listened-requires-clause-eight
-listened-requires-clause-eight c = eight_heard _ _ _ c.in-Ok.ensures
+pub listened-requires : goal.listened-requires
+unfolding identity_refusal
+listened-requires c = room_enough _ _ _ c.in-Ok.ensures
 
 pub returns-in-Ok : goal.returns-in-Ok
 unfolding identified
-returns-in-Ok c = let e = c.in-Ok.ensures in search (call_passed, call_written)
+returns-in-Ok c =
+    let e = c.in-Ok.ensures in
+    let d = rw c.eight.ensures at c.listened.ensures in
+    search (call_passed, call_written)
 
 pub returns-in-Err : goal.returns-in-Err
 unfolding identified

@@ -1,17 +1,14 @@
 -- `machine::Machine::identity_refusal` meets its contract.
 use Rattle.lists.proofs.Bools.{chain}
 use Rattle.refusals.proofs.Laws.{number_not_zero}
-use Rattle.std.proofs.lemmas.Result.{err_from_is_err_and}
 use Rattle.machine.specs.Refusals.{identity_refusal}
-use Rattle.machine.proofs.Laws.{step_refused, step_passed}
+use Rattle.machine.proofs.Laws.{passed_on, step_refused, step_passed}
 use Rattle.machine.proofs.Machine.identity_refusal.Goals as goal
 
 pub returns-in_err-step_refusal : goal.returns-in_err-step_refusal
 unfolding identity_refusal
 returns-in_err-step_refusal c =
-    let p = err_from_is_err_and c.from_residual.result c.from_residual.ensures.1 in
-    let e = c.in_err-step_refusal.ensures in
-    rw (p.1, p.2) (search (step_refused, number_not_zero))
+    let e = c.in_err-step_refusal.ensures in passed_on _ _ c.from_residual.ensures.1 (search (step_refused, number_not_zero))
 
 pub returns-then-not-is_listening : goal.returns-then-not-is_listening
 unfolding identity_refusal

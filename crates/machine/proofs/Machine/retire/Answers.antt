@@ -5,7 +5,7 @@ use Rattle.machine.proofs.Machine.retire.Goals as goal
 
 pub returns-in-Ok : goal.returns-in-Ok
 unfolding retired
-returns-in-Ok c = call_passed _ _ c.in-Ok.ensures (rw (c.idle.ensures, c.without-rows.ensures))
+returns-in-Ok c = call_passed _ _ c.in-Ok.ensures (rw (c.done.ensures, c.idle.ensures, c.without-rows.ensures))
 
 pub returns-in-Err : goal.returns-in-Err
 unfolding retired
