@@ -16,11 +16,6 @@ use boards::Board;
 use machine::Machine;
 use play::Played;
 
-// Refusals: over 32 boards; a flip over 8. The others are those of `machine` (10, 11, 28), `slots` (2) and `begins` (5, 6, 7).
-pub const TOO_MANY_BOARDS: u8 = 16;
-
-pub const FLIP_OVER_8: u8 = 17;
-
 // The cells that a run must be lent.
 pub const MOST_CELLS: usize = 1024;
 
@@ -74,8 +69,7 @@ pub fn run(
     ensures value { result ≡ benched machine boards count flips.now (length cells.old) }
     ensures cells_after { cells.new ≡ lay (bench_cells machine boards count flips.now (length cells.old)) cells.old }
 {
-    let refusal = refusals::run_refusal(&machine, &boards, count, flips, cells.len());
-    if refusal != 0 {
+    if let Err(refusal) = refusals::run_refusal(&machine, &boards, count, flips, cells.len()) {
         return Ran {
             machine,
             boards,
@@ -83,7 +77,7 @@ pub fn run(
             ending: 0,
             rounds: 0,
             clocks: 0,
-            refusal,
+            refusal: refusal.number(),
         };
     }
     let Played {

@@ -11,7 +11,7 @@ ghost use Rattle.bench.specs.Keeps.{told, Keeps, KeepsRound, KeepsOffer};
 
 use crate::{NO_BOARDS, NO_FREE_ADDRESS, NO_TICKET, NOBODY_LEFT, ROWS_FULL, TWO_REFUSALS};
 use boards::{Board, Heard};
-use machine::{Machine, Moment};
+use machine::Machine;
 
 // The rounds that are enough: at most 64 are answered by 32 boards, and one may be silent.
 const MOST_ROUNDS: usize = 65;
@@ -26,26 +26,20 @@ pub struct Played {
     pub ending: u8,
 }
 
-fn is_idle(m: &Machine) -> bool
-    ensures { result ≡ is_idle m.now.moment }
-{
-    matches!(m.moment, Moment::Idle)
-}
-
 // How a run ends behind an offer, if it does; else as a silent header would end it.
 fn ending(accepted: bool, m: &Machine) -> u8
     ensures { result ≡ cond (is_idle m.now.moment) (offer_ending accepted m.now.table.facts m.now.table.rows) 0 }
 {
-    if !is_idle(m) {
+    if !m.is_idle() {
         return NOBODY_LEFT;
     }
     if !accepted {
         return TWO_REFUSALS;
     }
-    if free::full(m.table.rows) {
+    if free::full(&m.table) {
         return ROWS_FULL;
     }
-    if free::no_free_address(m.table.facts, m.table.rows) {
+    if free::no_free_address(&m.table) {
         return NO_FREE_ADDRESS;
     }
     NO_TICKET
@@ -151,7 +145,7 @@ pub fn play(
 {
     let mut run = opened(machine, boards, count, cells);
     for i in 0..MOST_ROUNDS {
-        if is_idle(&run.machine) {
+        if run.machine.is_idle() {
             return run;
         }
         run = run.round(count, flip_at(flips, i), cells);

@@ -1,11 +1,13 @@
-// The refusals of a run, in their order, 0 for none.
+// The refusals of a run, in their order.
 ghost use Rattle.std.specs.Prelude.{◌≡◌, ltb, take};
 ghost use Rattle.lists.specs.Lists.{any};
+ghost use Rattle.refusals.specs.Refusals as refused;
 ghost use Rattle.bench.specs.Runs.{refusal_of};
 
-use crate::{FLIP_OVER_8, MOST_CELLS, TOO_MANY_BOARDS};
+use crate::MOST_CELLS;
 use boards::Board;
 use machine::Machine;
+use refusals::Refusal;
 
 // Whether one of the first `count` boards has an address over 127.
 fn address_over_127(boards: &[Board; 32], count: usize) -> bool
@@ -22,24 +24,27 @@ fn flip_over_8(flips: &[u8]) -> bool
 }
 
 // A run that is lent so many cells.
-pub fn run_refusal(m: &Machine, boards: &[Board; 32], count: usize, flips: &[u8], room: usize) -> u8
-    ensures { result ≡ refusal_of m.now boards.now count flips.now room }
+pub fn run_refusal(
+    m: &Machine,
+    boards: &[Board; 32],
+    count: usize,
+    flips: &[u8],
+    room: usize,
+) -> Result<(), Refusal>
+    ensures { refused.refusal_of result ≡ refusal_of m.now boards.now count flips.now room }
 {
     if room < MOST_CELLS {
-        return machine::TOO_FEW_CELLS;
+        return Err(Refusal::TooFewLent);
     }
-    let refusal = m.rest_refusal();
-    if refusal != 0 {
-        return refusal;
-    }
+    m.rest_refusal()?;
     if 32 < count {
-        return TOO_MANY_BOARDS;
+        return Err(Refusal::TooManyBoards);
     }
     if address_over_127(boards, count) {
-        return slots::OUT_OF_RANGE;
+        return Err(Refusal::OutOfRange);
     }
     if flip_over_8(flips) {
-        return FLIP_OVER_8;
+        return Err(Refusal::FlipOver8);
     }
-    begins::choice_refusal(m.table.facts, m.table.rows, begins::ASSIGN, 0, 0, 0)
+    begins::choice_refusal(&m.table, begins::ASSIGN, 0, 0, 0)
 }
