@@ -121,13 +121,12 @@ module _ (s b : List ℕ) {a : Answer} where
 
 module _ (s b : List ℕ) (short : length s ≤ 1024) where
   -- what `?` hands on of a record that breaks
-  pub broken : (r : Result Reading Fault) {handed : Fault → Type 0} → IsErrAnd r handed → (f : Fault) → ((e : Fault) → handed e → e ≡ f)
-      → fault_answer f ≡ from start s 0 → Told s b (answer_of r) b
+  pub broken : (r : Result Reading Fault) (f : Fault) → IsErrAnd r (λ e. e ≡ f) → fault_answer f ≡ from start s 0 → Told s b (answer_of r) b
   unfolding answer_to
-  broken r h f same read =
-      let (e, q, g) = err_from_is_err_and r h in
+  broken r f h read =
+      let (e, q, same) = err_from_is_err_and r h in
       let refusing = ne_eqb (number f.refusal) 0 (number_not_zero f.refusal) in
-      rw (q, same e g) (untouched s b (sym (rw (le-ltb 1024 (length s) short, ← read, refusing))) refusing)
+      rw (q, same) (untouched s b (sym (rw (le-ltb 1024 (length s) short, ← read, refusing))) refusing)
 
   module _ (r : Reading) (read : says r ≡ from start s 0) where
     pub no_room : length b / 10 < r.offers → {a : Answer} → a ≡ refused 15 0 → Told s b a b

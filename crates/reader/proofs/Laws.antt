@@ -97,11 +97,11 @@ module _ (p : Point) (s : List ℕ) (at : ℕ) {x n : ℕ} {a : Answer} (cell : 
 
 -- where it doesn't, what `?` hands on is the whole record's answer
 pub unmet : (p : Point) (s : List ℕ) (at n : ℕ) (met : Next) → ((x : ℕ) → next p x ≡ cond (eqb x n) met nowhere)
-    → (r : Result Reading Fault) {handed : Fault → Type 0} → IsErrAnd r handed
-    → (f : Fault) → ((e : Fault) → handed e → e ≡ f) → (cell_at s at ≡ n → ⊥) × (fault_answer f ≡ breaks at) → answer_of r ≡ read_at p s at
-unmet p s at n met only r h f same (other, broken) =
-    let (e, q, g) = err_from_is_err_and r h in
-    rw (q, same e g) (stuck p s at refl (sym (only (cell_at s at) ∙ rw (ne_eqb (cell_at s at) n other))) broken)
+    → (r : Result Reading Fault) (f : Fault) → IsErrAnd r (λ e. e ≡ f) → (cell_at s at ≡ n → ⊥) × (fault_answer f ≡ breaks at)
+    → answer_of r ≡ read_at p s at
+unmet p s at n met only r f h (other, broken) =
+    let (e, q, same) = err_from_is_err_and r h in
+    rw (q, same) (stuck p s at refl (sym (only (cell_at s at) ∙ rw (ne_eqb (cell_at s at) n other))) broken)
 
 -- a repeated START
 module _ (p : Point) (s : List ℕ) (at : ℕ) {a : Answer} where

@@ -9,7 +9,7 @@ use lib.Dec.{ltb}
 use lib.ListN.{length}
 use borrow.Author.Tests.{le-ltb}
 use Rattle.readings.specs.declared.Reading.{Reading}
-use Rattle.reader.specs.declared.Answer.{Answer}
+use Rattle.reader.specs.Read.{Answer}
 use Rattle.reader.specs.Points.{start}
 use Rattle.reader.specs.Read.{says, breaks, from, answer_to}
 use Rattle.reader.proofs.Bytes.{answer-within}

@@ -21,7 +21,7 @@ use Rattle.readings.specs.declared.Command.TheVariants as commands
 use Rattle.readings.specs.declared.Reading.{Reading}
 use Rattle.readings.specs.Readings.{may_follow, bare, directed, assigned}
 use Rattle.readings.specs.Layouts.{offer_cells, offers_cells, rounds_end, direct_cells, cells_of, is_bare, is_directed, offers_right, is_assigned, has_layout}
-use Rattle.reader.specs.declared.Answer.{Answer}
+use Rattle.reader.specs.Read.{Answer}
 use Rattle.reader.specs.Points.{Point, Next, nowhere, to, over, start, opening, again, reopening, event, header, new_address, round, offer, behind, ending, next, commanded, command_of, is_write_byte, is_new_address, is_offered, byte_of, ninth_of, address_in, answered_in}
 use Rattle.reader.specs.Read.{says, breaks, stopped, lead, from, cell_at, identity_byte, ten_of, tens_of, offers_of}
 use Rattle.reader.proofs.Bytes.{tens_length}

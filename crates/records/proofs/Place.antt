@@ -19,7 +19,7 @@ use Rattle.readings.specs.declared.Command.TheVariants.{Assign, ResetAll, SetFro
 use Rattle.readings.specs.declared.Command.TheVariants as commands
 use Rattle.readings.specs.declared.Reading.{Reading}
 use Rattle.readings.specs.Readings.{bare, directed, assigned}
-use Rattle.reader.specs.declared.Answer.{Answer}
+use Rattle.reader.specs.Read.{Answer}
 use Rattle.reader.specs.Points.{Point, Next, nowhere, to, over, start, opening, again, reopening, command, event, header, new_address, round, offer, behind, ending, next, commanded, command_of, is_write_byte, is_new_address, is_offered}
 use Rattle.reader.specs.Read.{says, breaks, from, stopped, lead}
 use Rattle.records.specs.Records.{FirstBad}

@@ -14,7 +14,7 @@ use Rattle.lists.specs.Buffers.{lay}
 use Rattle.lists.proofs.Bools.{both, and, not-refused}
 use Rattle.readings.specs.declared.Reading.{Reading}
 use Rattle.readings.specs.Layouts.{cells_of, has_layout}
-use Rattle.reader.specs.declared.Answer.{Answer}
+use Rattle.reader.specs.Read.{Answer}
 use Rattle.reader.specs.Points.{Point, Next, nowhere, to, over, start, next}
 use Rattle.reader.specs.Read.{says, refused, breaks, stopped, lead, from, offers_of, answer_to, offers_to}
 use Rattle.reader.proofs.Bytes.{answer-within}

@@ -19,7 +19,7 @@ use Rattle.readings.specs.declared.Joining.TheVariants as joinings
 use Rattle.readings.specs.declared.Command.TheVariants as commands
 use Rattle.readings.specs.declared.Reading.{Reading}
 use Rattle.readings.specs.Readings.{may_follow}
-use Rattle.reader.specs.declared.Answer.{Answer}
+use Rattle.reader.specs.Read.{Answer}
 use Rattle.reader.specs.Points.{Point, Next, to, over, opening, reopening, header, round, offer}
 use Rattle.reader.specs.Read.{stopped, lead, from, tens_of}
 use Rattle.lists.specs.Bits.{are_bytes}

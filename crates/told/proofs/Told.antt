@@ -170,17 +170,17 @@ module _ (m : Machine) where
   -- a Begin, a Join that is answered, and one that is refused
   begun_taken : (choice static new ticket room : ℕ) → (begun m choice static new ticket room).refusal ≡ 0
       → begun m choice static new ticket room
-      ≡ did (opened m.facts m.rows choice (address_asked m.rows choice static ticket) (address_wanted choice new)) (front_of false)
+      ≡ did (opened m.table.facts m.table.rows choice (address_asked m.table.rows choice static ticket) (address_wanted choice new)) (front_of false)
   unfolding beginning
   begun_taken choice static new ticket room h = call_taken (begin choice static new ticket room) m h
 
   joined_taken : (choice room : ℕ) → eqb choice 0 ≡ false → (joined m choice room).refusal ≡ 0
-      → joined m choice room ≡ did (opened m.facts m.rows (joins_for choice) 0 0) (front_of true)
+      → joined m choice room ≡ did (opened m.table.facts m.table.rows (joins_for choice) 0 0) (front_of true)
   unfolding joining
   joined_taken choice room n h = rw n at (call_taken (join choice room) m h)
 
   refused_taken : (choice room : ℕ) → eqb choice 0 ≡ true → (joined m choice room).refusal ≡ 0
-      → joined m choice room ≡ did (idle m.facts m.rows) (start_cell ∷ hot_join false ∷ stop_cell ∷ [])
+      → joined m choice room ≡ did (idle m.table.facts m.table.rows) (start_cell ∷ hot_join false ∷ stop_cell ∷ [])
   unfolding joining
   refused_taken choice room z h = rw z at (call_taken (join choice room) m h)
 
@@ -208,20 +208,20 @@ module _ (m : Machine) (choice static new ticket room : ℕ) (cs : List Call) (t
   pub begun_told : is_idle (after_all cs (after (begin choice static new ticket room) m)).moment ≡ true
       → let cells = cells_over (begin choice static new ticket room ∷ cs) m in
       let m₁ = after (begin choice static new ticket room) m in
-      let r = done joinings.None choice (address_asked m.rows choice static ticket) (address_wanted choice new) cs m₁ in
+      let r = done joinings.None choice (address_asked m.table.rows choice static ticket) (address_wanted choice new) cs m₁ in
       (from start cells 0 ≡ says r) × (offers_of r cells ≡ ten_each (offers_made cs m₁))
   begun_told =
-      let asked = address_asked m.rows choice static ticket in
+      let asked = address_asked m.table.rows choice static ticket in
       let wanted = address_wanted choice new in
       subst (λ (s : Step). TellsFrom s cs (done joinings.None choice asked wanted cs s.machine))
       (sym (begun_taken m choice static new ticket room taken))
-      (opened_told false choice asked wanted m.facts m.rows refl cs) goes
+      (opened_told false choice asked wanted m.table.facts m.table.rows refl cs) goes
 
   -- and the reader answers so
   pub begun_read : is_idle (after_all cs (after (begin choice static new ticket room) m)).moment ≡ true
       → let cells = cells_over (begin choice static new ticket room ∷ cs) m in
       let m₁ = after (begin choice static new ticket room) m in
-      let r = done joinings.None choice (address_asked m.rows choice static ticket) (address_wanted choice new) cs m₁ in
+      let r = done joinings.None choice (address_asked m.table.rows choice static ticket) (address_wanted choice new) cs m₁ in
       (space : ℕ) → length cells ≤ 1024 → 10 * r.offers ≤ space
       → (answer_to cells space ≡ says r) × (offers_to cells space ≡ ten_each (offers_made cs m₁))
   begun_read ends space = read_told (cells_over (begin choice static new ticket room ∷ cs) m) space (begun_told ends)
@@ -235,7 +235,7 @@ module _ (m : Machine) (choice static new ticket room : ℕ) (cs : List Call) (t
         let g = given_up_lem (after_all cs (after (begin choice static new ticket room) m)) room' given in
         rw g.1
         (subst (λ (s : Step). BreaksFrom s cs) (sym (begun_taken m choice static new ticket room taken))
-        (opened-breaks false choice (address_asked m.rows choice static ticket) (address_wanted choice new) m.facts m.rows refl cs)
+        (opened-breaks false choice (address_asked m.table.rows choice static ticket) (address_wanted choice new) m.table.facts m.table.rows refl cs)
         goes g.0)
 
     -- and the reader answers so, with whatever room
@@ -261,7 +261,7 @@ module _ (m : Machine) (choice room : ℕ) (cs : List Call) (taken : (joined m c
     joined_told =
         let k = joins_for choice in
         subst (λ (s : Step). TellsFrom s cs (done Answered k 0 0 cs s.machine)) (sym (joined_taken m choice room answers taken))
-        (opened_told true k 0 0 m.facts m.rows (joining_may choice) cs) goes ends
+        (opened_told true k 0 0 m.table.facts m.table.rows (joining_may choice) cs) goes ends
 
     -- and the reader answers so
     pub joined_read : let cells = cells_over (join choice room ∷ cs) m in
@@ -283,10 +283,10 @@ module _ (m : Machine) (choice room : ℕ) (cs : List Call) (taken : (joined m c
         go : (b : Bool) → eqb choice 0 ≡ b → BreaksFrom (joined m choice room) cs
         go true z =
             subst (λ (s : Step). BreaksFrom s cs) (sym (refused_taken m choice room z taken))
-            (λ on before. absurd (false≢true (sym before ∙ rw (idle_stays m.facts m.rows cs on).1)))
+            (λ on before. absurd (false≢true (sym before ∙ rw (idle_stays m.table.facts m.table.rows cs on).1)))
         go false n =
             subst (λ (s : Step). BreaksFrom s cs) (sym (joined_taken m choice room n taken))
-            (opened-breaks true (joins_for choice) 0 0 m.facts m.rows (joining_may choice) cs)
+            (opened-breaks true (joins_for choice) 0 0 m.table.facts m.table.rows (joining_may choice) cs)
 
     -- and the reader answers so, with whatever room
     pub joined_given_up_read : let cells = cells_over (join choice room ∷ cs) m in
@@ -304,7 +304,7 @@ module _ (m : Machine) (room : ℕ) (cs : List Call) (taken : (joined m 0 room).
       let r = bare Refused commands.None in
       subst (λ (s : Step). go_on cs s.machine ≡ true → (from start (cells_from s cs) 0 ≡ says r) × (offers_of r (cells_from s cs) ≡ []))
       (sym (refused_taken m 0 room refl taken))
-      (λ on. rw (idle_stays m.facts m.rows cs on).0 (refl, refl)) goes
+      (λ on. rw (idle_stays m.table.facts m.table.rows cs on).0 (refl, refl)) goes
 
   -- and the reader answers so
   pub refused_read : let cells = cells_over (join 0 room ∷ cs) m in

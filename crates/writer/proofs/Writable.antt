@@ -1,12 +1,16 @@
 -- Which readings have a record of at most 1,024 cells, and what is answered.
-use Prim.Native.Nat.{ℕ, suc, ◌+◌, ◌*◌, ◌<◌, ◌≤◌}
+use Prim.Native.Nat.{ℕ, zero, suc, ◌+◌, ◌*◌, ◌/◌, ◌<◌, ◌≤◌}
 use mathlib.Core.Path.{◌≡◌, refl, sym, ap, ◌∙◌}
-use mathlib.Core.Bool.{Bool, true, false, not, ◌&&◌, ◌||◌, and-true, and-false, and-eq-true_iff, true≢false}
+use mathlib.Core.Bool.{Bool, true, false, not, ◌&&◌, and-true, and-eq-true_iff, true≢false}
 use mathlib.Core.List.{List}
+use mathlib.Core.Logic.{◌⊎◌, ⊎_elim}
 use native.Mathlib.Omega.{arith}
 use lib.Dec.{eqb, leb}
-use lib.ListN.{length, length-append}
-use borrow.Author.Tests.{le-leb, lt-leb, lt-ltb, le-ltb, leb-true, eqb-true}
+use lib.ListN.{length, take, drop, length-append}
+use lib.Seq.{get_or-take}
+use borrow.Author.Tests.{le-leb, lt-ltb, le-ltb, leb-true, eqb-true}
+use Rattle.std.specs.Simd.{first_chunks}
+use Rattle.lists.specs.Lists.{all}
 use Rattle.lists.specs.Buffers.{lay}
 use Rattle.lists.proofs.Bools.{agree}
 use Rattle.readings.specs.declared.Joining.{Joining}
@@ -19,48 +23,48 @@ use Rattle.readings.specs.declared.Reading.{Reading}
 use Rattle.readings.specs.Readings.{command_number, may_follow}
 use Rattle.readings.specs.Layouts.{rounds_end, direct_cells, command_cells, joining_cells, cells_of}
 use Rattle.readings.specs.Layouts.{is_bare, is_directed, is_assigned, offers_right, says_right, has_layout}
-use Rattle.writer.specs.declared.Written.{Written}
-use Rattle.writer.specs.Write.{writable, write_refusal, to_write, write_answer}
+use Rattle.writer.specs.Write.{Written, right, writable, write_refusal, to_write, write_answer}
 use Rattle.writer.proofs.Offers.{offers_length}
 
--- ---- an assign's tests, one after the other
+-- ---- an assign's tests
 
--- three tests as the code asks them, and as the definition does
-none_of : (a b c : Bool) → (a && b && not c) ≡ not (not a || not b || c)
-none_of true true c = refl
-none_of true false c = refl
-none_of false b c = refl
+-- so many offers are right just where each of the first so many tens is
+right_tens : (n k : ℕ) (bytes : List ℕ) → n ≤ k → all right (take n (first_chunks 10 k bytes)) ≡ offers_right n bytes
+unfolding offers_right
+right_tens zero k bytes h = refl
+right_tens (suc n) zero bytes h = absurd (omega arith)
+right_tens (suc n) (suc k) bytes h =
+    rw (get_or-take 10 bytes 8 0 (omega arith), get_or-take 10 bytes 9 0 (omega arith), right_tens n k (drop 10 bytes) (omega arith))
+
+-- the same tests in another order, where only the last one is left
+tests_pass : (a m k o : Bool) → (a && m && k) ≡ true → o ≡ (a && k && o && m)
+tests_pass true true true true e = refl
+tests_pass true true true false e = refl
+tests_pass true true false o e = absurd (true≢false (sym e))
+tests_pass true false k o e = absurd (true≢false (sym e))
+tests_pass false m k o e = absurd (true≢false (sym e))
 
 module _ (r : Reading) (bytes : List ℕ) where
-  abbrev addressed : Bool
-  addressed = not (eqb r.header 0) || not (eqb r.new 0) || r.direct
+  abbrev quiet : Bool
+  quiet = eqb r.header 0 && eqb r.new 0 && not r.direct && not (r.last && eqb r.offers 0)
 
   abbrev assignable : Bool
   assignable = is_assigned r bytes && leb r.offers 92
 
-  quiet : (eqb r.header 0 && eqb r.new 0 && not r.direct) ≡ not addressed
-  quiet = none_of (eqb r.header 0) (eqb r.new 0) r.direct
+  -- bytes for so many offers
+  enough : leb r.offers (length bytes / 10) ≡ leb (10 * r.offers) (length bytes)
+  enough =
+      agree (leb r.offers (length bytes / 10)) (leb (10 * r.offers) (length bytes))
+      (λ h. le-leb _ _ (omega (arith, leb-true r.offers (length bytes / 10) h)))
+      (λ h. le-leb _ _ (omega (arith, leb-true (10 * r.offers) (length bytes) h)))
 
-  pub assigned_addressed : addressed ≡ true → false ≡ assignable
+  pub assigned_right : (quiet && leb r.offers 92 && leb r.offers (length bytes / 10)) ≡ true
+      → {b : Bool} → b ≡ all right (take r.offers (first_chunks 10 (length bytes / 10) bytes)) → b ≡ assignable
   unfolding is_assigned
-  assigned_addressed e = rw (quiet, e)
-
-  pub assigned_many : 92 < r.offers → false ≡ assignable
-  assigned_many h = rw (lt-leb _ _ h) (sym (and-false (is_assigned r bytes)))
-
-  module _ (e : addressed ≡ false) where
-    pub assigned_none : (r.last && eqb r.offers 0) ≡ true → false ≡ assignable
-    unfolding is_assigned
-    assigned_none f = rw (quiet, e, f)
-
-    module _ (f : (r.last && eqb r.offers 0) ≡ false) where
-      pub assigned_short : length bytes < 10 * r.offers → false ≡ assignable
-      unfolding is_assigned
-      assigned_short h = rw (quiet, e, f, lt-leb _ _ h)
-
-      pub assigned_right : r.offers ≤ 92 → 10 * r.offers ≤ length bytes → {b : Bool} → b ≡ offers_right r.offers bytes → b ≡ assignable
-      unfolding is_assigned
-      assigned_right m h p = p ∙ sym (rw (quiet, e, f, le-leb _ _ h, le-leb _ _ m) (and-true _))
+  assigned_right e p =
+      let t = simp and-eq-true_iff at e in
+      p ∙ right_tens r.offers (length bytes / 10) bytes (leb-true r.offers (length bytes / 10) t.1)
+      ∙ tests_pass quiet (leb r.offers 92) (leb (10 * r.offers) (length bytes)) (offers_right r.offers bytes) (rw enough at e)
 
 -- ---- how long the records are
 
@@ -165,8 +169,16 @@ module _ (r : Reading) (bytes : List ℕ) where
     unfolding writable has_layout cells_of
     fits_here = ap (fits r.joining) (sym e)
 
-    pub writable-plain : eqb (command_number c) 1 ≡ false → {b : Bool} → b ≡ says_right c r bytes → b ≡ writable r bytes
-    writable-plain n p = p ∙ plain r.joining c follows n ∙ fits_here
+    plainly : eqb (command_number c) 1 ≡ false → {b : Bool} → b ≡ says_right c r bytes → b ≡ writable r bytes
+    plainly n p = p ∙ plain r.joining c follows n ∙ fits_here
+
+  module _ (m : may_follow r.joining r.command ≡ true) where
+    pub writable_bare : (r.command ≡ commands.None) ⊎ (r.command ≡ ResetAll) ⊎ (r.command ≡ Silence) ⊎ (r.command ≡ Allow)
+        → {b : Bool} → b ≡ is_bare r → b ≡ writable r bytes
+    writable_bare h p = ⊎_elim (λ e. plainly m e refl p) (⊎_elim (λ e. plainly m e refl p) (⊎_elim (λ e. plainly m e refl p) (λ e. plainly m e refl p))) h
+
+    pub writable_directed : (r.command ≡ SetFromStatic) ⊎ (r.command ≡ Move) → {b : Bool} → b ≡ is_directed r → b ≡ writable r bytes
+    writable_directed h p = ⊎_elim (λ e. plainly m e refl p) (λ e. plainly m e refl p) h
 
   pub writable_assign : may_follow r.joining r.command ≡ true → r.command ≡ Assign → {b : Bool} → b ≡ assignable r bytes → b ≡ writable r bytes
   writable_assign m e p = p ∙ assign r.joining (follows m e) ∙ fits_here m e

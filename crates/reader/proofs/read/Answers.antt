@@ -13,7 +13,7 @@ returns-then-cells-gt-MOST_CELLS c =
 pub returns-in_err-reading : goal.returns-in_err-reading
 returns-in_err-reading c =
     let a = c.args in
-    let both = broken a.cells.now a.buffer.now c.if-cells-gt-MOST_CELLS.false _ c.from_residual.ensures.1 _ (λ e h. h) c.in_err-reading.ensures in
+    let both = broken a.cells.now a.buffer.now c.if-cells-gt-MOST_CELLS.false _ _ c.from_residual.ensures.1 c.in_err-reading.ensures in
     record { value = both.0; buffer_after = both.1 }
 
 pub returns-then-buffer-reading : goal.returns-then-buffer-reading

@@ -27,7 +27,7 @@ offer-returns t c = search (heard_eight, offered_again, via_not)
 
 pub round-returns-in_err-expect : goal.round-returns-in_err-expect
 unfolding next
-round-returns-in_err-expect t c = unmet _ _ _ _ _ (λ x. refl) _ c.from_residual.ensures.1 _ (λ e h. h) c.in_err-expect.ensures
+round-returns-in_err-expect t c = unmet _ _ _ _ _ (λ x. refl) _ _ c.from_residual.ensures.1 c.in_err-expect.ensures
 
 pub round-returns-in-506 : goal.round-returns-in-506
 unfolding next

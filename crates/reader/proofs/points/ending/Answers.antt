@@ -6,7 +6,7 @@ use Rattle.reader.proofs.points.ending.Goals as goal
 
 pub returns-in_err-expect : goal.returns-in_err-expect
 unfolding next
-returns-in_err-expect c = unmet _ _ _ _ _ (λ x. refl) _ c.from_residual.ensures.1 _ (λ e h. h) c.in_err-expect.ensures
+returns-in_err-expect c = unmet _ _ _ _ _ (λ x. refl) _ _ c.from_residual.ensures.1 c.in_err-expect.ensures
 
 pub returns-then-at-cells : goal.returns-then-at-cells
 returns-then-at-cells c = let stop = c.in_ok-expect.ensures in search stop_early

@@ -8,7 +8,7 @@ use Rattle.reader.proofs.points.event.Goals as goal
 
 pub returns-in_err-expect : goal.returns-in_err-expect
 unfolding next odd_bit parity ones_in
-returns-in_err-expect c = unmet _ _ _ _ _ (λ x. refl) _ c.from_residual.ensures.1 _ (λ e h. h) c.in_err-expect.ensures
+returns-in_err-expect c = unmet _ _ _ _ _ (λ x. refl) _ _ c.from_residual.ensures.1 c.in_err-expect.ensures
 
 pub returns : goal.returns
 unfolding next odd_bit parity ones_in

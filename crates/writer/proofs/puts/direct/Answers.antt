@@ -1,16 +1,21 @@
--- `writer::puts::direct` meets its contract: three stores or four.
+-- `writer::puts::direct` meets its contract: the own part stands behind the command.
+use mathlib.Core.Path.{◌≡◌}
+use mathlib.Core.List.{[], ◌∷◌}
 use native.Mathlib.Omega.{arith}
-use Rattle.writer.proofs.Laws.{direct_silent, direct-answered}
+use Rattle.readings.specs.Layouts.{direct_cells}
+use Rattle.writer.proofs.Laws.{puts_behind}
 use Rattle.writer.proofs.puts.direct.Goals as goal
 
-pub returns-then-not-answered-clause-cells_after : goal.returns-then-not-answered-clause-cells_after
-returns-then-not-answered-clause-cells_after c =
+pub returns-then-r-clause-cells_after : goal.returns-then-r-clause-cells_after
+returns-then-r-clause-cells_after c =
     let a = c.args in
-    (direct_silent a.header a.new a.answered a.at a.cells.now (omega arith) c.write_byte.ensures
-    c.answer_cell.ensures c.if-not-answered.true).1
+    let own : 513 ∷ c.answer_cell-header.result ∷ c.data_cell-new.result ∷ 514 ∷ [] ≡ direct_cells a.r.now.header a.r.now.new a.r.now.direct =
+    rw (c.data_cell-new.ensures, c.write_byte-then-r.ensures, c.answer_cell-header.ensures, c.write_byte.ensures, c.if-r.true) in
+    puts_behind a.at (504 ∷ a.command ∷ []) a.cells.now (omega arith) (c.put-at.ensures.value, c.put-at.ensures.cells_after) own c.put.ensures.cells_after
 
-pub returns-clause-cells_after : goal.returns-clause-cells_after
-returns-clause-cells_after c =
+pub returns-else-r-clause-cells_after : goal.returns-else-r-clause-cells_after
+returns-else-r-clause-cells_after c =
     let a = c.args in
-    (direct-answered a.header a.new a.answered a.at a.cells.now (omega arith) c.write_byte.ensures
-    c.answer_cell.ensures c.if-not-answered.false c.write_byte-2.ensures c.data_cell.ensures).1
+    let own : 513 ∷ c.answer_cell-header.result ∷ 514 ∷ [] ≡ direct_cells a.r.now.header a.r.now.new a.r.now.direct =
+    rw (c.answer_cell-header.ensures, c.write_byte.ensures, c.if-r.false) in
+    puts_behind a.at (504 ∷ a.command ∷ []) a.cells.now (omega arith) (c.put-at.ensures.value, c.put-at.ensures.cells_after) own c.put-else-r.ensures.cells_after

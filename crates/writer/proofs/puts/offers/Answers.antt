@@ -9,6 +9,8 @@ loop-i-init c = search offered_start
 pub loop-i-preserved : goal.loop-i-preserved
 loop-i-preserved c = search offered_turn
 
-pub returns-clause-value : goal.returns-clause-value
-returns-clause-value c =
-    (offered_ended c.loop-i.invariant (omega arith)).0
+pub returns : goal.returns
+returns c =
+    let a = c.args in
+    let both = offered_ended a.bytes.now a.cells.now a.at a.count (omega arith) c.loop-i.invariant (omega arith) (omega arith) in
+    record { value = both.0; cells_after = both.1 }
