@@ -121,22 +121,17 @@ fn round(
     answered: bool,
     should: u16,
 ) -> io::Result<Tally> {
-    let x02 = parity::identity_cell(0x02);
-    let x00 = parity::identity_cell(0x00);
-    let x04 = parity::identity_cell(four);
-    let x06 = parity::identity_cell(0x06);
-    let x41 = parity::identity_cell(0x41);
     let offer = parity::answer_cell(parity::offered_byte(address), answered);
     let cells = [
         BROADCAST_READ_ANSWERED,
-        x02,
-        x00,
-        x00,
-        x00,
-        x04,
-        x00,
-        x06,
-        x41,
+        parity::identity_cell(0x02),
+        parity::identity_cell(0x00),
+        parity::identity_cell(0x00),
+        parity::identity_cell(0x00),
+        parity::identity_cell(four),
+        parity::identity_cell(0x00),
+        parity::identity_cell(0x06),
+        parity::identity_cell(0x41),
         offer,
         REPEATED_START,
     ];
