@@ -11,14 +11,14 @@ pub struct Came {
     pub flaw: Option<Flaw>,
 }
 
-// What can be wrong with a step beside its numbers.
+// What a step can have done wrong beside its numbers.
 #[derive(Clone, Copy, Debug, PartialEq, Eq)]
 pub enum Flaw {
-    WroteBehind, // a cell behind those that were written is not as it was
-    Touched, // so is a byte, or a cell, that had to stay
-    MachineChanged, // the call was refused, and the machine is another one
-    KeptChanged, // machine or boards are not as a run has to leave them
-    NotEchoed, // the record that was read is not the one that is written of it
+    WroteBehind, // a lent cell behind those that were written is not blank any more
+    Touched, // nor is a byte or a cell that had to stay blank
+    MachineChanged, // the call was refused, and the machine is not as it was
+    KeptChanged, // a run left machine or boards as it may not
+    NotEchoed, // the writer does not give back the record that was read
 }
 
 impl fmt::Display for Flaw {

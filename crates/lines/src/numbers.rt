@@ -1,5 +1,5 @@
 // Numbers as the script writes them, decimal, or hexadecimal with an h behind: 9, 09h.
-ghost use Rattle.std.specs.Prelude.{◌≤◌};
+ghost use Rattle.std.specs.Prelude.{◌≡◌, ◌≤◌, slice_get, unwrap_or};
 
 use crate::list::List;
 use std::io;
@@ -8,9 +8,11 @@ use std::io::Write;
 // Up to 24 numbers. No line of the script has as many.
 pub type Numbers = List<u64, 24>;
 
-impl List<u64, 24> {
+impl Numbers {
     // No numbers.
-    pub fn none() -> Numbers {
+    pub fn none() -> Numbers
+        ensures { result.count ≡ 0 }
+    {
         List::new(0)
     }
 
@@ -34,15 +36,18 @@ impl List<u64, 24> {
     }
 
     // The number at a place, 0 where there is none.
-    pub fn at(&self, place: usize) -> u64 {
+    pub fn at(&self, place: usize) -> u64
+        ensures { result ≡ unwrap_or (slice_get self.now.places place) 0 }
+    {
         self.places.get(place).copied().unwrap_or(0)
     }
 
     // Whether none is higher than the highest for its place. The last of these is for all places behind it too.
     pub fn within(&self, highest: &[u64]) -> bool {
         let last = highest.last().copied().unwrap_or(0);
-        self.as_slice().iter().enumerate().all(|(place, number)| *number
-            <= highest.get(place).copied().unwrap_or(last))
+        let most = |place: usize| highest.get(place).copied().unwrap_or(last);
+        let mut placed = self.as_slice().iter().enumerate();
+        placed.all(|(place, number)| *number <= most(place))
     }
 
     // Writes the numbers, each behind a blank.
