@@ -15,6 +15,7 @@ pub fn read_full<R: Read>(input: &mut R, buffer: &mut [u8]) -> io::Result<usize>
     ensures bytes { IfOk result (λ n. IfSome (R.remaining input.old) (λ xs. take n buffer.new ≡ take (length buffer.new) xs)) }
     ensures left { IfOk result (λ n. Consumes (R.remaining input.old) (R.remaining input.new) (take n buffer.new)) }
 {
+    // Each turn goes on by what its read gave, which no range or iterator says: so a `while`.
     let mut done: usize = 0;
     while done < buffer.len() {
         let n = input.read(&mut buffer[done..])?;

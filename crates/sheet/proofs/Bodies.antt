@@ -6,11 +6,12 @@ use mathlib.Core.List.{List, [], ◌∷◌, map}
 use mathlib.Core.Logic.{◌⊎◌, inl, inr}
 use native.Mathlib.Omega.{arith}
 use lib.ListN.{length, get_or, take, drop, length-map, length-drop, drop_of_length-le}
-use lib.Seq.{take_all}
+use lib.Seq.{take_all, drop-drop}
 use borrow.Author.Tests.{eqb-true}
 use Rattle.lists.specs.Numbers.{numbers}
 use Rattle.lists.proofs.Bools.{both}
 use Rattle.lists.proofs.Numbers.{numbers-length}
+use Rattle.lists.proofs.Buffers.{tail_mid}
 use Rattle.boards.specs.declared.Board.{Board}
 use Rattle.sheet.specs.declared.contents.Entry.{Entry}
 use Rattle.sheet.specs.Sheet.{entry_count, entry_at, entries, bodies_begin, kind_right, length_right, entry_right, entries_right, sheet_right}
@@ -157,3 +158,15 @@ module _ (sheet : List ℕ) (right : sheet_right sheet ≡ true) where
   -- and so does the body of the facts
   pub facts_inside : bodies_begin sheet + 21 ≤ length sheet
   facts_inside = omega (arith, boards_inside)
+
+  -- so the bodies hold both
+  pub bodies_long : {bodies : List ℕ} → bodies ≡ drop (bodies_begin sheet) sheet → 21 + 8 * length (boards_in sheet) ≤ length bodies
+  bodies_long e = rw (e, length-drop) (omega (arith, boards_inside))
+
+  -- and the flips are what is left of them
+  pub flips_behind_boards : (let bodies = drop (bodies_begin sheet) sheet in let n = 21 + 8 * length (boards_in sheet) in take (length bodies - n) (drop n bodies) ≡ flips_in sheet)
+  flips_behind_boards =
+      let bodies = drop (bodies_begin sheet) sheet in
+      let n = 21 + 8 * length (boards_in sheet) in
+      let place : bodies_begin sheet + n ≡ bodies_begin sheet + 21 + 8 * length (boards_in sheet) = omega arith in
+      rw (tail_mid n bodies, drop-drop n (bodies_begin sheet) sheet, place) (sym flips_lie)

@@ -7,28 +7,31 @@ use native.Mathlib.Omega.{arith}
 use lib.Dec.{ltb}
 use lib.ListN.{length}
 use borrow.Author.Tests.{lt-ltb, le-ltb, ne_eqb}
+use Rattle.std.proofs.Common.{Result, Ok, Err}
+use Rattle.refusals.specs.declared.Refusal.{Refusal}
+use Rattle.refusals.specs.declared.Refusal.TheVariants.{TooFewLent}
+use Rattle.refusals.specs.Refusals.{number}
+use Rattle.refusals.proofs.Laws.{number_not_zero}
 use Rattle.lists.specs.Lists.{any}
 use Rattle.lists.specs.Buffers.{lay}
-use Rattle.lists.proofs.Bools.{here, next, via_not}
+use Rattle.lists.proofs.Bools.{here, next}
 use Rattle.slots.specs.Slots.{facts_right, checked}
 use Rattle.slots.specs.declared.Facts.{Facts}
 use Rattle.free.specs.Free.{full, no_free_address, no_ticket_left}
 use Rattle.begins.specs.Begins.{assign_refusal}
 use Rattle.boards.specs.declared.Board.{Board}
 use Rattle.machine.specs.declared.Machine.{Machine}
-use Rattle.machine.specs.declared.Stepped.{Stepped}
 use Rattle.machine.specs.Refusals.{rest_refusal}
-use Rattle.machine.specs.Calls.{started, stepped}
+use Rattle.machine.specs.Calls.{started}
 use Rattle.machine.proofs.Laws.{rest_resting, rest_passed}
 use Rattle.life.proofs.Sound.{start_right}
 use Rattle.bench.specs.Runs.{run_refusal}
 use Rattle.lent.specs.declared.Report.{Report}
 use Rattle.lent.specs.Runs.{lent_refusal, lent_run, reported}
-use Rattle.lent.proofs.Runs.{lent_refusal_lem, lent_played}
+use Rattle.lent.proofs.Runs.{lent_played}
 use Rattle.listing.specs.Listing.{listing, lent}
-use Rattle.sheet.specs.declared.SheetRan.{SheetRan}
 use Rattle.sheet.specs.Sheet.{sheet_right, facts_in, board_of_body, boards_in, flips_in, bodies_of, entries}
-use Rattle.sheet.specs.Runs.{no_rows, sheet_refusal, machine_for, run_of, listing_of, sheet_text, sheet_ran}
+use Rattle.sheet.specs.Runs.{sheet_answer, no_rows, sheet_refusal, machine_for, run_of, listing_of, sheet_text, sheet_ran}
 
 -- ---- what the bench asks
 
@@ -60,96 +63,87 @@ bench_asks f bs flips right low =
 
 -- ---- the ways out
 
--- refused with this number
-abbrev refused_with : ℕ → SheetRan
-refused_with k = record { length = 0; refusal = k }
-
 -- what is handed back, and the lent bytes as they then stand, are those of a sheet run
-abbrev Comes : List ℕ → List ℕ → SheetRan → List ℕ → Type 0
-Comes sheet out r stand = (r ≡ sheet_ran sheet (length out)) × (stand ≡ lay (sheet_text sheet (length out)) out)
+pub record Comes (sheet out : List ℕ) (answer : Result ℕ Refusal) (stand : List ℕ) : Type 0 where
+  pub value : sheet_answer answer ≡ sheet_ran sheet (length out)
+  pub out_after : stand ≡ lay (sheet_text sheet (length out)) out
 
 module _ (sheet out : List ℕ) where
   -- refused, with the number that applies: the bytes stay
-  comes_refused : {r : SheetRan} {k : ℕ} → k ≡ sheet_refusal sheet (length out) → (k ≡ 0 → ⊥) → r ≡ refused_with k → Comes sheet out r out
+  pub refused : {r : Refusal} → number r ≡ sheet_refusal sheet (length out) → Comes sheet out (Err r) out
   unfolding sheet_text sheet_ran
-  comes_refused {k = k} e n p = rw (← e, ne_eqb k 0 n) (p, refl)
+  refused {r} e =
+      let n : (number r ≡ 0 → ⊥) = number_not_zero r in
+      record { value = rw (← e, ne_eqb (number r) 0 n); out_after = rw (← e, ne_eqb (number r) 0 n) }
 
   -- fewer than 1,100 bytes
-  pub too_few_bytes : {r : SheetRan} → length out < 1100 → r ≡ refused_with 11 → Comes sheet out r out
+  pub too_few_bytes : length out < 1100 → Comes sheet out (Err TooFewLent) out
   unfolding sheet_refusal
-  too_few_bytes short = comes_refused (here _ (lt-ltb (length out) 1100 short) refl) (λ e. omega (arith, e))
+  too_few_bytes short = refused (here _ (lt-ltb (length out) 1100 short) refl)
 
-  module _ (enough : 1100 ≤ length out) {right : Bool} (judged : right ≡ sheet_right sheet) where
+  module _ (enough : 1100 ≤ length out) where
     -- a sheet that breaks its rules
-    pub sheet_wrong : {r : SheetRan} → not right ≡ true → r ≡ refused_with 18 → Comes sheet out r out
+    pub sheet_wrong : {r : Refusal} → number r ≡ cond (not (sheet_right sheet)) 18 0 → Comes sheet out (Err r) out
     unfolding sheet_refusal
-    sheet_wrong w = comes_refused (next 11 (le-ltb (length out) 1100 enough) (here _ (via_not judged w) refl)) (λ e. omega (arith, e))
+    sheet_wrong {r} e = refused (next 11 (le-ltb (length out) 1100 enough) (go (sheet_right sheet) _ e))
+      where
+        go : (b : Bool) (more : ℕ) → number r ≡ cond (not b) 18 0 → number r ≡ cond (not b) 18 more
+        go true more e = absurd (number_not_zero r e)
+        go false more e = e
 
-    module _ (kept : not right ≡ false) {s : Stepped} (starts : s ≡ stepped (started (facts_in sheet))) where
+    module _ (right : sheet_right sheet ≡ true) where
       -- what is asked behind it
       sheet_passed : {k more : ℕ} → k ≡ more → k ≡ cond (ltb (length out) 1100) 11 (cond (not (sheet_right sheet)) 18 more)
-      sheet_passed e = next 11 (le-ltb (length out) 1100 enough) (next 18 (via_not judged kept) e)
-
-      -- what a start refuses
-      start_refusal : s.refusal ≡ cond (facts_right (facts_in sheet)) 0 1
-      unfolding started
-      start_refusal = ap (λ (t : Stepped). t.refusal) starts
+      sheet_passed e = next 11 (le-ltb (length out) 1100 enough) (next 18 (ap not right) e)
 
       -- facts that break theirs
-      pub facts_wrong : {r : SheetRan} → (s.refusal ≡ 0 → ⊥) → r ≡ refused_with s.refusal → Comes sheet out r out
-      unfolding sheet_refusal
-      facts_wrong n = comes_refused (sheet_passed (go (facts_right (facts_in sheet)) _ start_refusal)) n
+      pub facts_wrong : {r : Refusal} → number r ≡ (started (facts_in sheet)).refusal → Comes sheet out (Err r) out
+      unfolding sheet_refusal started
+      facts_wrong {r} e = refused (sheet_passed (go (facts_right (facts_in sheet)) _ e))
         where
-          go : (b : Bool) (more : ℕ) → s.refusal ≡ cond b 0 1 → s.refusal ≡ cond (not b) 1 more
-          go true more e = absurd (n e)
+          go : (b : Bool) (more : ℕ) → number r ≡ cond b 0 1 → number r ≡ cond (not b) 1 more
+          go true more e = absurd (number_not_zero r e)
           go false more e = e
 
-      module _ (begun : s.refusal ≡ 0) {p : Report} (played : p ≡ reported (lent_run s.machine (boards_in sheet) (flips_in sheet) 1024)) where
+      module _ (begun : 0 ≡ (started (facts_in sheet)).refusal) {m : Machine} (is : m ≡ machine_for sheet) where
         -- a start that is not refused had right facts
         facts_right_lem : facts_right (facts_in sheet) ≡ true
-        facts_right_lem = go (facts_right (facts_in sheet)) start_refusal
+        unfolding started
+        facts_right_lem = go (facts_right (facts_in sheet)) begun
           where
-            go : (b : Bool) → s.refusal ≡ cond b 0 1 → b ≡ true
+            go : (b : Bool) → ◌≡◌ {A = ℕ} 0 (cond b 0 1) → b ≡ true
             go true e = refl
-            go false e = absurd (omega (arith, begun, e))
+            go false e = absurd (omega arith)
 
-        -- the run of the bench is that of the sheet's machine
-        benches : p ≡ reported (lent_run (machine_for sheet) (boards_in sheet) (flips_in sheet) 1024)
-        benches =
-            let same : s.machine ≡ machine_for sheet = ap (λ (t : Stepped). t.machine) starts in
-            played ∙ ap (λ (m : Machine). reported (lent_run m (boards_in sheet) (flips_in sheet) 1024)) same
-
-        -- so is its refusal
-        bench_says : p.refusal ≡ lent_refusal (machine_for sheet) (boards_in sheet) (flips_in sheet) 1024
-        bench_says = ap (λ (q : Report). q.refusal) benches ∙ lent_refusal_lem (machine_for sheet) (boards_in sheet) (flips_in sheet) 1024
-
-        -- which asks what is left to ask
-        bench_refusal : p.refusal ≡ sheet_refusal sheet (length out)
+        -- the bench asks what is left to ask
+        bench_refusal : {k : ℕ} → k ≡ lent_refusal m (boards_in sheet) (flips_in sheet) 1024 → k ≡ sheet_refusal sheet (length out)
         unfolding sheet_refusal
-        bench_refusal =
+        bench_refusal e =
             sheet_passed
-            (next 1 (ap not facts_right_lem) (bench_says ∙ bench_asks (facts_in sheet) (boards_in sheet) (flips_in sheet) facts_right_lem (boards_low sheet)))
+            (next 1 (ap not facts_right_lem)
+            (e ∙ rw is (bench_asks (facts_in sheet) (boards_in sheet) (flips_in sheet) facts_right_lem (boards_low sheet))))
 
-        -- what the bench refuses
-        pub run_refused : {r : SheetRan} → (p.refusal ≡ 0 → ⊥) → r ≡ refused_with p.refusal → Comes sheet out r out
-        run_refused n = comes_refused bench_refusal n
+        -- what it refuses
+        pub run_refused : {r : Refusal} → number r ≡ lent_refusal m (boards_in sheet) (flips_in sheet) 1024 → Comes sheet out (Err r) out
+        run_refused e = refused (bench_refusal e)
 
-        -- what it plays is listed
-        same_listing : p.refusal ≡ 0
-            → lent (length out) (listing p.machine.rows p.ending p.rounds p.clocks) ≡ listing_of (run_of sheet)
-        unfolding run_of
-        same_listing z =
-            let same = benches ∙ ap reported (lent_played (machine_for sheet) (boards_in sheet) (flips_in sheet) 1024 (sym bench_says ∙ z)) in
-            rw (le-ltb (length out) 1100 enough) (ap (λ (q : Report). listing q.machine.rows q.ending q.rounds q.clocks) same)
+        module _ (played : 0 ≡ lent_refusal m (boards_in sheet) (flips_in sheet) 1024)
+            {p : Report} (told : p ≡ reported (lent_run m (boards_in sheet) (flips_in sheet) 1024)) where
+          -- what it plays is listed
+          same_listing : lent (length out) (listing p.machine.rows p.ending p.rounds p.clocks) ≡ listing_of (run_of sheet)
+          unfolding run_of
+          same_listing =
+              let same = told ∙ ap reported (lent_played m (boards_in sheet) (flips_in sheet) 1024 (sym played)) in
+              rw (le-ltb (length out) 1100 enough) (ap (λ (q : Report). listing q.machine.rows q.ending q.rounds q.clocks) (rw is at same))
 
-        -- its listing stands at the front of the lent bytes
-        pub run_listed : p.refusal ≡ 0 → {n : ℕ} {stand : List ℕ}
-            → (let text = lent (length out) (listing p.machine.rows p.ending p.rounds p.clocks) in
-            n ≡ length text → stand ≡ lay text out → Comes sheet out (record { length = n; refusal = 0 }) stand)
-        unfolding sheet_text sheet_ran
-        run_listed z l w =
-            let done : sheet_refusal sheet (length out) ≡ 0 = sym bench_refusal ∙ z in
-            rw done (
-              λ i. record { length = (l ∙ ap length (same_listing z)) i; refusal = 0 },
-              w ∙ ap (λ (text : List ℕ). lay text out) (same_listing z),
-            )
+          -- its listing stands at the front of the lent bytes
+          pub run_listed : {n : ℕ} {stand : List ℕ}
+              → (let text = lent (length out) (listing p.machine.rows p.ending p.rounds p.clocks) in
+              n ≡ length text → stand ≡ lay text out → Comes sheet out (Ok n) stand)
+          unfolding sheet_text sheet_ran
+          run_listed l w =
+              let done : sheet_refusal sheet (length out) ≡ 0 = sym (bench_refusal played) in
+              record {
+                value = rw done (λ i. record { length = (l ∙ ap length same_listing) i; refusal = 0 });
+                out_after = rw done (w ∙ ap (λ (text : List ℕ). lay text out) same_listing);
+              }

@@ -9,6 +9,7 @@ use native.Mathlib.Omega.{arith}
 use lib.Dec.{eqb, ltb, leb}
 use lib.ListN.{length, length-map}
 use borrow.Author.Tests.{eqb-true, eqb-false, ltb-false, leb-true, le-ltb, le-leb, ne_eqb}
+use Rattle.std.proofs.Common.{None, slice_get}
 use Rattle.lists.specs.Numbers.{numbers}
 use Rattle.lists.proofs.Bools.{both, neither, cond_by}
 use Rattle.sheet.specs.declared.contents.Entry.{Entry}
@@ -110,6 +111,18 @@ some_not_more m n h =
     let t = (neither (eqb n 0) (ltb m n)).0 h in
     let some : (n ≡ 0 → ⊥) = eqb-false n 0 t.0 in
     (omega (arith, some), ltb-false m n t.1)
+
+-- the test whether a sheet is longer than 512 bytes, or shorter than its table: it passes for no right one
+pub longer : (size table : ℕ) → (ltb 512 size || ltb size table) ≡ true → size ≤ 512 → table ≤ size → ⊥
+longer size table h small fits = false≢true (rw (le-ltb 512 size small, le-ltb size table fits) at h)
+
+pub not_longer : (size table : ℕ) → (ltb 512 size || ltb size table) ≡ false → size ≤ 512
+not_longer size table h = ltb-false 512 size ((neither (ltb 512 size) (ltb size table)).0 h).0
+
+-- no byte stands first in an empty sheet
+pub none_there : (sheet : List ℕ) → None ≡ slice_get sheet 0 → length sheet ≡ 0
+none_there [] e = refl
+none_there (byte ∷ bytes) e = absurd (cc)
 
 -- ---- the loop over the entries: those before i are right, and the body of the one at i is due here
 

@@ -1,5 +1,5 @@
 -- The sheet run: refused with the first number that applies, else one run by the plain rule, and its listing.
-use Rattle.std.specs.Prelude.{ℕ, cond, not, List, [], eqb, ltb, length, replicate}
+use Rattle.std.specs.Prelude.{ℕ, cond, not, List, [], eqb, ltb, length, replicate, Result, Ok, Err}
 use Rattle.lists.specs.Lists.{any}
 use Rattle.slots.specs.Slots.{facts_right}
 use Rattle.rows.specs.declared.Row.{Row}
@@ -10,7 +10,8 @@ use Rattle.machine.specs.Calls.{started}
 use Rattle.bench.specs.Play.{Play, clocks_in, rounds_in}
 use Rattle.bench.specs.Plain.{plain}
 use Rattle.listing.specs.Listing.{listing}
-use Rattle.sheet.specs.declared.SheetRan.{SheetRan}
+use Rattle.refusals.specs.declared.Refusal.{Refusal}
+use Rattle.refusals.specs.Refusals.{number}
 use Rattle.sheet.specs.Sheet.{sheet_right, facts_in, boards_in, flips_in}
 
 -- ---- refusals
@@ -51,5 +52,14 @@ unfoldable pub sheet_text : List ℕ → ℕ → List ℕ
 sheet_text sheet room = cond (eqb (sheet_refusal sheet room) 0) (listing_of (run_of sheet)) []
 
 -- what the caller is handed: its length, 0 after a refusal
+pub record SheetRan : Type 0 where
+  pub length : ℕ
+  pub refusal : ℕ
+
 unfoldable pub sheet_ran : List ℕ → ℕ → SheetRan
 sheet_ran sheet room = record { length = length (sheet_text sheet room); refusal = sheet_refusal sheet room }
+
+-- what an answer says of it: 0 for no refusal, and no length with one
+abbrev pub sheet_answer : Result ℕ Refusal → SheetRan
+sheet_answer (Ok long) = record { length = long; refusal = 0 }
+sheet_answer (Err refusal) = record { length = 0; refusal = number refusal }

@@ -1,49 +1,38 @@
 -- `sheet::run` meets its contract: each way out is one of the laws.
-use borrow.Author.Rules.{rules}
-use borrow.Author.Tests.{not-false}
-use Rattle.lists.proofs.Bools.{via}
+use Rattle.std.proofs.lemmas.Result.{err_from_is_err_and}
 use Rattle.sheet.proofs.Refusals.{too_few_bytes, sheet_wrong, facts_wrong, run_refused, run_listed}
 use Rattle.sheet.proofs.run.Goals as goal
 
 pub returns-then-out-lt-MOST_BYTES : goal.returns-then-out-lt-MOST_BYTES
 returns-then-out-lt-MOST_BYTES c =
-    let a = c.args in
-    let t = too_few_bytes a.sheet.now a.out.now c.if-out-lt-MOST_BYTES.true c.refused.ensures in
-    record { value = t.0; out_after = t.1 }
+    let t = too_few_bytes c.args.sheet.now c.args.out.now c.if-out-lt-MOST_BYTES.true in
+    record { value = t.value; out_after = t.out_after }
 
-pub returns-then-not-is_right : goal.returns-then-not-is_right
-returns-then-not-is_right c =
-    let a = c.args in
-    let t = sheet_wrong a.sheet.now a.out.now c.if-out-lt-MOST_BYTES.false c.is_right.ensures (rw c.if-not-is_right.true) c.refused-then-not-is_right.ensures in
-    record { value = t.0; out_after = t.1 }
+pub returns-in_err-right : goal.returns-in_err-right
+returns-in_err-right c =
+    let p = err_from_is_err_and c.from_residual.result c.from_residual.ensures.1 in
+    let t = sheet_wrong c.args.sheet.now c.args.out.now c.if-out-lt-MOST_BYTES.false c.in_err-right.ensures.refusal in
+    rw (p.1, p.2) record { value = t.value; out_after = t.out_after }
 
-pub start-started-requires : goal.start-started-requires
-start-started-requires c = search (via, not-false)
+pub returns-in_err-machine : goal.returns-in_err-machine
+returns-in_err-machine c =
+    let p = err_from_is_err_and c.from_residual-in_err-machine.result c.from_residual-in_err-machine.ensures.1 in
+    let right = c.in_ok-right.right in
+    let t = facts_wrong right.bytes.now c.args.out.now c.if-out-lt-MOST_BYTES.false right.right c.in_err-machine.ensures.refusal in
+    rw (p.1, p.2, ← c.in_ok-right.ensures.same) record { value = t.value; out_after = t.out_after }
 
-pub returns-then-started-ne0 : goal.returns-then-started-ne0
-returns-then-started-ne0 c =
-    let a = c.args in
-    let t = facts_wrong a.sheet.now a.out.now c.if-out-lt-MOST_BYTES.false c.is_right.ensures (rw c.if-not-is_right.false) c.start-started.ensures
-    c.if-started-ne0.true c.refused-then-started-ne0.ensures in
-    record { value = t.0; out_after = t.1 }
-
-pub boards-count-requires : goal.boards-count-requires
-boards-count-requires c = search (via, not-false)
-
-pub play-ran-requires : goal.play-ran-requires
-play-ran-requires c = (search (via, not-false), search rules)
-
-pub returns-then-ran-ne0 : goal.returns-then-ran-ne0
-returns-then-ran-ne0 c =
-    let a = c.args in
-    let t = run_refused a.sheet.now a.out.now c.if-out-lt-MOST_BYTES.false c.is_right.ensures (rw c.if-not-is_right.false) c.start-started.ensures
-    c.if-started-ne0.false c.play-ran.ensures c.if-ran-ne0.true c.refused-then-ran-ne0.ensures in
-    record { value = t.0; out_after = t.1 }
+pub returns-in_err-ran : goal.returns-in_err-ran
+returns-in_err-ran c =
+    let p = err_from_is_err_and c.from_residual-in_err-ran.result c.from_residual-in_err-ran.ensures.1 in
+    let right = c.in_ok-right.right in
+    let t = run_refused right.bytes.now c.args.out.now c.if-out-lt-MOST_BYTES.false right.right
+    c.in_ok-machine.ensures.refusal c.in_ok-machine.ensures.machine c.in_err-ran.ensures.refusal in
+    rw (p.1, p.2, ← c.in_ok-right.ensures.same) record { value = t.value; out_after = t.out_after }
 
 pub returns : goal.returns
 returns c =
-    let a = c.args in
-    let t = run_listed a.sheet.now a.out.now c.if-out-lt-MOST_BYTES.false c.is_right.ensures (rw c.if-not-is_right.false) c.start-started.ensures
-    c.if-started-ne0.false c.play-ran.ensures
-    c.if-ran-ne0.false c.write.ensures.value c.write.ensures.out_after in
-    record { value = t.0; out_after = t.1 }
+    let right = c.in_ok-right.right in
+    let t = run_listed right.bytes.now c.args.out.now c.if-out-lt-MOST_BYTES.false right.right
+    c.in_ok-machine.ensures.refusal c.in_ok-machine.ensures.machine c.in_ok-ran.ensures.refusal c.in_ok-ran.ensures.report
+    c.write.ensures.value c.write.ensures.out_after in
+    rw (← c.in_ok-right.ensures.same) record { value = t.value; out_after = t.out_after }

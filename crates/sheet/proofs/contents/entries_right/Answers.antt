@@ -7,8 +7,8 @@ use Rattle.sheet.proofs.contents.entries_right.Goals as goal
 pub loop-i-init : goal.loop-i-init
 loop-i-init c = walking_start c.requires.0 (c.shared_slice_known-1.given 0).fits
 
-pub returns-then-not-entry_right : goal.returns-then-not-entry_right
-returns-then-not-entry_right c = search (walking_stopped, via, not-true)
+pub returns-then-not-is_right : goal.returns-then-not-is_right
+returns-then-not-is_right c = search (walking_stopped, via, not-true)
 
 pub overflow_add-due-in-loop-i : goal.overflow_add-due-in-loop-i
 overflow_add-due-in-loop-i c = record { fits = search (walking_small, via, not-false) }
