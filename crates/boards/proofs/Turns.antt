@@ -2,21 +2,21 @@
 use Prim.Native.Nat.{ℕ, zero, suc, ◌+◌, ◌-◌, ◌*◌, ◌^◌, ◌<◌, ◌≤◌}
 use mathlib.Core.Path.{◌≡◌, refl, sym, ap, ◌∙◌}
 use mathlib.Core.Bool.{Bool, true, false, cond, not, ◌&&◌, ◌||◌, and-true, and-false}
-use mathlib.Core.List.{List, [], ◌∷◌, ◌++◌, zip_with}
+use mathlib.Core.List.{List, [], ◌∷◌, ◌++◌, map, zip_with}
 use native.Mathlib.Nat.{not-suc-le-zero, pow-suc, le_of_suc-le-suc, suc_inj}
 use native.Mathlib.Omega.{arith}
 use borrow.Author.Tests.{lt-ltb, le-ltb, le-leb, eqb-true, eqb-false}
 use denote.Param.Members.{Mut, Called}
 use lib.Dec.{eqb, ltb, leb-suc-suc}
-use lib.ListN.{length, take, set, get_or, length-set, replicate, get_or-replicate, length-append, length-take, length-map, length-replicate}
+use lib.ListN.{length, take, set, get_or, length-set, replicate, get_or-replicate, get_or-map, length-append, length-take, length-map, length-replicate}
 use lib.Pow.{pow_mono}
 use mir.Val.{bool_byte}
-use Rattle.std.specs.Array.{IsFromFnResult, IsFromFnResultFrom}
+use Rattle.std.specs.Array.{IsFromFnResult, IsFromFnResultFrom, IsMapOf}
 use Rattle.std.specs.List.{list_any, zip}
-use Rattle.std.proofs.lemmas.List.{same_lists}
+use Rattle.std.proofs.lemmas.List.{same_lists, ext_get_or}
 use Rattle.lists.proofs.Zips.{zip_at, zip_long, zipping, zip_turn, zip_done}
 use Rattle.boards.specs.declared.Board.{Board}
-use Rattle.boards.specs.Wire.{waits, waiting, waiting_first, anyone, sent, sends_zero, wire_bit, keeps_in, stay_in, hear}
+use Rattle.boards.specs.Wire.{waits, waiting, waiting_first, anyone, board_of, sent, sends_zero, wire_bit, keeps_in, stay_in, hear}
 
 -- ---- an array made by a closure that changes nothing it took in
 
@@ -42,6 +42,13 @@ module _ {F B : Type 0} (g : Mut F (ℕ × Unit {0}) B) (f : F) (ys xs : List B)
   -- so it is the list
   pub made : (n : ℕ) → IsFromFnResult g f ys n → length xs ≡ n → ((k : ℕ) → k < n → GivesAt k) → ys ≡ xs
   made n m e s = same_lists ys xs (m.long ∙ sym e) (λ k d h. made_from n 0 m.each (λ j b. s j (omega arith)) k d (omega arith) (omega (arith, m.long)))
+
+-- an array made of another (`map`) by a closure that took in nothing: its elements are h of the other's
+pub mapped : {F A B : Type 0} (g : Mut F (A × Unit {0}) B) (f : F) (xs : List A) (ys : List B) (n : ℕ) (h : A → B) (d : A) → IsMapOf g f xs ys n
+    → length xs ≡ n → ((p q : F) (x : A) (y : B) → Called g p (x, tt) y q → y ≡ h x) → ys ≡ map h xs
+mapped g f xs ys n h d m e s =
+    ext_get_or (h d) ys (map h xs) (m.long ∙ sym e ∙ sym (length-map xs h))
+    (λ i b. let k = m.at i d (h d) (omega (arith, m.long)) in s k.0 k.1 _ _ k.2 ∙ sym (get_or-map h xs i d))
 
 -- ---- its elements
 
@@ -74,17 +81,18 @@ waiting_at n bs i b f z e h p = p ∙ sym (rw e at (flag_at n bs i b f (rw e h))
 
 -- ---- one bit
 
--- whether any sends 0, each board beside its flag
-any_zip : (g : Board → Bool → Bool) (bs : List Board) (fs : List Bool) → list_any (λ p. g p.0 p.1) (zip bs fs) ≡ anyone (zip_with g bs fs)
+-- whether any board sends 0, by its identity and its flag
+any_zip : (k : ℕ) (ids : List ℕ) (fs : List Bool)
+    → list_any (λ p. sends_zero k (board_of p.0) p.1) (zip ids fs) ≡ anyone (zip_with (sends_zero k) (map board_of ids) fs)
 unfolding zip_with
-any_zip g [] fs = refl
-any_zip g (b ∷ bs) [] = refl
-any_zip g (b ∷ bs) (f ∷ fs) = ap (λ (r : Bool). g b f || r) (any_zip g bs fs)
+any_zip k [] fs = refl
+any_zip k (id ∷ ids) [] = refl
+any_zip k (id ∷ ids) (f ∷ fs) = ap (λ (r : Bool). sends_zero k (board_of id) f || r) (any_zip k ids fs)
 
 -- the bit is 0 then, and else 1
-pub pulled : (k : ℕ) (bs : List Board) (fs : List Bool) (r : Bool) (w : ℕ) → r ≡ list_any (λ p. sends_zero k p.0 p.1) (zip bs fs)
-    → w ≡ bool_byte (not r) → w ≡ wire_bit k bs fs
-pulled k bs fs r w e p = p ∙ rw (e, any_zip (sends_zero k) bs fs) (go (anyone (zip_with (sends_zero k) bs fs)))
+pub pulled : (k : ℕ) (ids : List ℕ) (fs : List Bool) (r : Bool) (w : ℕ) → r ≡ list_any (λ p. sends_zero k (board_of p.0) p.1) (zip ids fs)
+    → w ≡ bool_byte (not r) → w ≡ wire_bit k (map board_of ids) fs
+pulled k ids fs r w e p = p ∙ rw (e, any_zip k ids fs) (go (anyone (zip_with (sends_zero k) (map board_of ids) fs)))
   where
     go : (b : Bool) → bool_byte (not b) ≡ cond b 0 1
     go true = refl
@@ -100,12 +108,12 @@ bit_small k bs fs = go (anyone (zip_with (sends_zero k) bs fs))
 -- ---- who stays in
 
 -- at a 0: the flags below i are settled, and those from i on are as they came
-pub record Settled (k : ℕ) (bs : List Board) (fs kept : List Bool) (i : ℕ) : Type 0 where
-  pub long : length kept ≡ length bs
-  pub same : zipping (keeps_in k 0) bs kept i ≡ stay_in k 0 bs fs
+pub record Settled (k : ℕ) (ids : List ℕ) (fs kept : List Bool) (i : ℕ) : Type 0 where
+  pub long : length kept ≡ length ids
+  pub same : zipping (keeps_in k 0) (map board_of ids) kept i ≡ stay_in k 0 (map board_of ids) fs
 
 -- before the first
-pub settled_start : {k : ℕ} {bs : List Board} {fs : List Bool} → length fs ≡ length bs → Settled k bs fs fs 0
+pub settled_start : {k : ℕ} {ids : List ℕ} {fs : List Bool} → length fs ≡ length ids → Settled k ids fs fs 0
 settled_start e = record { long = e; same = refl }
 
 -- a flag that is put where it stands
@@ -114,29 +122,27 @@ set_here [] i f = refl
 set_here (g ∷ fs) zero f = refl
 set_here (g ∷ fs) (suc i) f = rw (set_here fs i f)
 
-module _ {k : ℕ} {bs : List Board} {fs kept : List Bool} {i : ℕ} (v : Settled k bs fs kept i) where
+module _ {k : ℕ} {ids : List ℕ} {fs kept : List Bool} {i : ℕ} (v : Settled k ids fs kept i) where
   -- the next is settled
-  settled_turn : i < length bs → (b : Board) (f now : Bool) → now ≡ keeps_in k 0 (get_or bs i b) (get_or kept i f)
-      → Settled k bs fs (set kept i now) (i + 1)
-  settled_turn h b f now e =
-      record {
-        long = length-set kept i now ∙ v.long;
-        same = rw e (zip_turn (keeps_in k 0) bs kept i b f h (omega (arith, v.long)) ∙ v.same);
-      }
+  settled_turn : i < length ids → (d : ℕ) (now : Bool) → now ≡ keeps_in k 0 (board_of (get_or ids i d)) (get_or kept i false)
+      → Settled k ids fs (set kept i now) (i + 1)
+  settled_turn h d now e =
+      let turn = zip_turn (keeps_in k 0) (map board_of ids) kept i (board_of d) false (rw (length-map ids board_of) h) (omega (arith, v.long)) in
+      record { long = length-set kept i now ∙ v.long; same = rw e (rw (get_or-map board_of ids i d) at turn ∙ v.same) }
 
   -- one that sent 1 leaves
-  pub settled_leaves : i < length bs → (b : Board) (s : ℕ) → s ≡ sent k (get_or bs i b) → s ≡ 1 → Settled k bs fs (set kept i false) (i + 1)
-  settled_leaves h b s e one = settled_turn h b false false (rw (← e, one) (sym (and-false (get_or kept i false))))
+  pub settled_leaves : i < length ids → (d : ℕ) → sent k (board_of (get_or ids i d)) ≡ 1 → Settled k ids fs (set kept i false) (i + 1)
+  settled_leaves h d e = settled_turn h d false (rw e (sym (and-false (get_or kept i false))))
 
   -- one that sent 0 stays as it was
-  pub settled_stays : i < length bs → (b : Board) (s : ℕ) → s ≡ sent k (get_or bs i b) → (s ≡ 1 → ⊥) → Settled k bs fs kept (i + 1)
-  settled_stays h b s e other =
-      let none : sent k (get_or bs i b) ≡ 0 = omega (arith, e, other) in
-      rw (set_here kept i false) at (settled_turn h b false (get_or kept i false) (rw none (sym (and-true (get_or kept i false)))))
+  pub settled_stays : i < length ids → (d : ℕ) → (sent k (board_of (get_or ids i d)) ≡ 1 → ⊥) → Settled k ids fs kept (i + 1)
+  settled_stays h d e =
+      let none : sent k (board_of (get_or ids i d)) ≡ 0 = omega (arith, e) in
+      rw (set_here kept i false) at (settled_turn h d (get_or kept i false) (rw none (sym (and-true (get_or kept i false)))))
 
   -- all are
-  pub settled_ended : length bs ≤ i → kept ≡ stay_in k 0 bs fs
-  settled_ended h = sym (zip_done (keeps_in k 0) bs kept i h (omega (arith, v.long))) ∙ v.same
+  pub settled_ended : length ids ≤ i → kept ≡ stay_in k 0 (map board_of ids) fs
+  settled_ended h = sym (zip_done (keeps_in k 0) (map board_of ids) kept i (rw (length-map ids board_of) h) (omega (arith, v.long))) ∙ v.same
 
 -- at a 1 nobody leaves
 none_leaves : (k : ℕ) (bs : List Board) (fs : List Bool) → length bs ≡ length fs → stay_in k 1 bs fs ≡ fs
@@ -197,3 +203,22 @@ module _ {n : ℕ} {bs : List Board} {fs kept : List Bool} {heard k : ℕ} where
   -- after the last
   pub hearing_ended : Hearing n bs fs kept heard k → k ≤ 0 → record { identity = heard; still = kept } ≡ hear n bs fs 0
   hearing_ended v p = sym (hear_end k bs kept heard p) ∙ v.same
+
+-- ---- a round asks for identities alone
+
+-- a flag that is made of a board's identity and its flag
+zip_identities : (g : Board → Bool → Bool) → ((b : Board) (f : Bool) → g (board_of b.identity) f ≡ g b f) → (bs : List Board) (fs : List Bool)
+    → zip_with g (map board_of (map (λ b. b.identity) bs)) fs ≡ zip_with g bs fs
+unfolding zip_with
+zip_identities g e [] fs = refl
+zip_identities g e (b ∷ bs) [] = refl
+zip_identities g e (b ∷ bs) (f ∷ fs) = rw (e b f, zip_identities g e bs fs)
+
+-- so the round of the numbers is the round of the boards
+pub hear_identities : (k : ℕ) (bs : List Board) (fs : List Bool) (h : ℕ) → hear k (map board_of (map (λ b. b.identity) bs)) fs h ≡ hear k bs fs h
+unfolding hear
+hear_identities zero bs fs h = refl
+hear_identities (suc k) bs fs h =
+    let seen = wire_bit k bs fs in
+    rw (zip_identities (sends_zero k) (λ b f. refl) bs fs, zip_identities (keeps_in k seen) (λ b f. refl) bs fs)
+    (hear_identities k bs (stay_in k seen bs fs) (h * 2 + seen))

@@ -42,6 +42,10 @@ keeps_in k seen b still = still && leb (sent k b) seen
 abbrev pub stay_in : ℕ → ℕ → List Board → List Bool → List Bool
 stay_in k seen bs fs = zip_with (keeps_in k seen) bs fs
 
+-- a board by its identity alone: no bit asks for its address
+abbrev pub board_of : ℕ → Board
+board_of id = record { identity = id; address = 0 }
+
 -- k bits to come, behind what was heard so far: what is heard in the end, and who is still in then
 unfoldable pub hear : ℕ → List Board → List Bool → ℕ → Heard
 hear zero bs fs heard = record { identity = heard; still = fs }

@@ -7,8 +7,8 @@
 //     let after = boards::offer(&boards, &heard.still, byte);
 #![tactic(auto)]
 
-ghost use Rattle.std.specs.Prelude.{◌≡◌, ◌<◌};
-ghost use Rattle.boards.specs.Wire.{wire_bit, sent, stay_in, hear, takes, after_byte, waiting_first, anyone};
+ghost use Rattle.std.specs.Prelude.{◌≡◌, ◌<◌, map};
+ghost use Rattle.boards.specs.Wire.{board_of, wire_bit, stay_in, hear, takes, after_byte, waiting_first, anyone};
 
 use std::array;
 
@@ -20,14 +20,6 @@ pub struct Board {
 }
 
 impl Board {
-    // What it sends as bit k.
-    fn sent(&self, k: u64) -> u64
-        requires { k < 64 }
-        ensures { result ≡ sent k self.now }
-    {
-        (self.identity >> k) % 2
-    }
-
     // What it does with the address byte that it sees: it takes the address if it is still in and the byte's ones are odd.
     fn take(self, byte: u8, still: bool) -> Board
         ensures { result ≡ takes byte still self }
@@ -64,25 +56,32 @@ pub fn anyone(still: &[bool; 32]) -> bool
     still.iter().any(|still| *still)
 }
 
-// Bit k on the wire: 0 if any board still in sends 0.
-fn wire_bit(k: u64, boards: &[Board; 32], still: &[bool; 32]) -> u64
-    requires { k < 64 }
-    ensures { result ≡ wire_bit k boards.now still.now }
+// The identities of the boards, which are all that a round asks for: one behind the other they are read in fewer instructions than out of the boards.
+fn identities(boards: &[Board; 32]) -> [u64; 32]
+    ensures { result ≡ map (λ b. b.identity) boards.now }
 {
-    let pulled = boards
+    boards.map(|board| board.identity)
+}
+
+// Bit k on the wire: 0 if any board still in sends 0.
+fn wire_bit(k: u64, sent: &[u64; 32], still: &[bool; 32]) -> u64
+    requires { k < 64 }
+    ensures { result ≡ wire_bit k (map board_of sent.now) still.now }
+{
+    let pulled = sent
         .iter()
         .zip(still)
-        .any(|(board, still)| *still & (board.sent(k) == 0));
+        .any(|(identity, still)| *still & ((*identity >> k) % 2 == 0));
     u64::from(!pulled)
 }
 
-// At a 0 those that sent 1 leave. (A store to those alone takes fewer instructions than a new array of flags.)
-fn stay_in(k: u64, boards: &[Board; 32], kept: &mut [bool; 32])
+// At a 0 those that sent 1 leave.
+fn stay_in(k: u64, sent: &[u64; 32], kept: &mut [bool; 32])
     requires { k < 64 }
-    ensures { kept.new ≡ stay_in k 0 boards.now kept.old }
+    ensures { kept.new ≡ stay_in k 0 (map board_of sent.now) kept.old }
 {
-    for (i, board) in boards.iter().enumerate() {
-        if board.sent(k) == 1 {
+    for (i, identity) in sent.iter().enumerate() {
+        if (*identity >> k) % 2 == 1 {
             kept[i] = false;
         }
     }
@@ -92,12 +91,13 @@ fn stay_in(k: u64, boards: &[Board; 32], kept: &mut [bool; 32])
 pub fn listen(boards: &[Board; 32], still: &[bool; 32]) -> Heard
     ensures { result ≡ hear 64 boards.now still.now 0 }
 {
+    let sent = identities(boards);
     let mut identity = 0;
     let mut kept = *still;
     for k in (0..64).rev() {
-        let seen = wire_bit(k, boards, &kept);
+        let seen = wire_bit(k, &sent, &kept);
         if seen == 0 {
-            stay_in(k, boards, &mut kept);
+            stay_in(k, &sent, &mut kept);
         }
         identity = identity * 2 + seen;
     }
