@@ -103,9 +103,9 @@ module _ (room : ℕ) (m : Machine) (bs : List Board) (ks : List ℕ) (lent : 10
 
   -- endings 2, 3, 4: Begin for assign would now be refused with 5, 6, 7
   pub table_ended : let p = on_wire room m bs ks in
-      2 ≤ p.ending → p.ending ≤ 4 → assign_refusal p.machine.facts p.machine.rows ≡ p.ending + 3
+      2 ≤ p.ending → p.ending ≤ 4 → assign_refusal p.machine.table.facts p.machine.table.rows ≡ p.ending + 3
   table_ended =
-      as_plain (λ p. 2 ≤ p.ending → p.ending ≤ 4 → assign_refusal p.machine.facts p.machine.rows ≡ p.ending + 3) (plain-says m ks bs may)
+      as_plain (λ p. 2 ≤ p.ending → p.ending ≤ 4 → assign_refusal p.machine.table.facts p.machine.table.rows ≡ p.ending + 3) (plain-says m ks bs may)
 
   -- ending 5: exactly where there are no boards
   pub no_boards_lem : eqb (on_wire room m bs ks).ending 5 ≡ eqb (length bs) 0
@@ -144,8 +144,8 @@ module _ (room : ℕ) (m : Machine) (bs : List Board) (ks : List ℕ) (lent : 10
 pub may_taken : (m : Machine) (bs : List Board) (n : ℕ) (flips : List ℕ) (room : ℕ) → MayRun m bs → 1024 ≤ room → n ≤ 32
     → any (λ (b : Board). ltb 127 b.address) bs ≡ false → any (ltb 8) flips ≡ false → run_refusal m bs n flips room ≡ 0
 may_taken m bs n flips room may lent few low tame =
-    let rests = sym (rest_resting m refl (ap not may.right) refl (ap not may.idles)) in
-    sym (begin_asked m bs n flips room lent refl rests few refl low refl tame (sym may.begins))
+    let rests = rest_resting m refl (ap not may.right) refl (ap not may.idles) in
+    sym (begin_asked m bs n flips room lent rests few refl low refl tame (sym may.begins))
 
 module _ (m : Machine) (bs : List Board) (n : ℕ) (flips : List ℕ) (room : ℕ) (taken : run_refusal m bs n flips room ≡ 0) where
   -- what is not refused was lent 1,024 cells

@@ -55,7 +55,7 @@ run_ended = record {
 
 -- the table can give no more, and they say why
 abbrev SaysTable : List ℕ → Scene → Play → Type 0
-SaysTable ks s p = 2 ≤ p.ending → assign_refusal p.machine.facts p.machine.rows ≡ p.ending + 3
+SaysTable ks s p = 2 ≤ p.ending → assign_refusal p.machine.table.facts p.machine.table.rows ≡ p.ending + 3
 
 offer_says : (t : Bool) (s : Scene) → round_follows t s ≡ false → 2 ≤ offer_ending t s.facts s.rows
     → assign_refusal s.facts s.rows ≡ offer_ending t s.facts s.rows + 3

@@ -83,7 +83,7 @@ module _ (m : Machine) (bs : List Board) (flips : List ℕ) (room : ℕ) (taken 
 
   -- endings 2, 3, 4: Begin for assign would now be refused with 5, 6, 7
   pub lent_table_ended : let r = lent_run m bs flips room in
-      2 ≤ r.ending → r.ending ≤ 4 → assign_refusal r.machine.facts r.machine.rows ≡ r.ending + 3
+      2 ≤ r.ending → r.ending ≤ 4 → assign_refusal r.machine.table.facts r.machine.table.rows ≡ r.ending + 3
   lent_table_ended = rw lent_on_wire (table_ended room m bs flips enough lent_may_run)
 
   -- ending 5: exactly where the list is empty

@@ -72,7 +72,7 @@ IsRead o =
 module _ (m : Machine) (bs : List Board) (may : MayRun m bs) where
   -- the machine that Begin opens
   abbrev pub opened_here : Machine
-  opened_here = opened m.facts m.rows 0 0 0
+  opened_here = opened m.table.facts m.table.rows 0 0 0
 
   -- it does
   pub opens : step_of (begin 0 0 0 0 8) m ≡ did opened_here (start_cell ∷ [])
@@ -91,17 +91,17 @@ module _ (m : Machine) (bs : List Board) (may : MayRun m bs) where
       (begun_read m 0 0 0 0 8 cs (ap (λ (s : Step). s.refusal) opens) (go_on_lem cs (after (begin 0 0 0 0 8) m) go))
 
   -- the first header, silent
-  opened_silent : step_of (answer false 8) opened_here ≡ did (idle m.facts m.rows) (broadcast_write false ∷ stop_cell ∷ [])
+  opened_silent : step_of (answer false 8) opened_here ≡ did (idle m.table.facts m.table.rows) (broadcast_write false ∷ stop_cell ∷ [])
   unfolding opened_answer
   opened_silent = answer_steps opened_here 8 (begins_right m may.right may.begins) (omega arith) false
 
   -- and answered
   opened_heard : step_of (answer true 8) opened_here
-      ≡ did (round m.facts m.rows 0) (broadcast_write true ∷ assign_cell ∷ repeated_start_cell ∷ [])
+      ≡ did (round m.table.facts m.table.rows 0) (broadcast_write true ∷ assign_cell ∷ repeated_start_cell ∷ [])
   unfolding opened_answer commanded round_rule
   opened_heard =
       answer_steps opened_here 8 (begins_right m may.right may.begins) (omega arith) true
-      ∙ rw (begins_can m.facts m.rows may.begins)
+      ∙ rw (begins_can m.table.facts m.table.rows may.begins)
 
 -- ---- the run
 
@@ -114,7 +114,7 @@ assigned_told b bs p = rw (ne_eqb (suc (length bs)) 0 (λ (e : suc (length bs) �
 pub silent_comes : (m : Machine) (may : MayRun m [])
     → outcome (answer false 8 ∷ []) (opened_here m [] may) false false false
     ≡ record {
-      machine = idle m.facts m.rows;
+      machine = idle m.table.facts m.table.rows;
       cells = broadcast_write false ∷ stop_cell ∷ [];
       offers = [];
       first = false;

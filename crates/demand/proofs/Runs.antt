@@ -88,7 +88,7 @@ module _ (m : Machine) (ks : List ℕ) where
 
   -- with endings 2 to 4 the table can give no more: Begin would be refused with 5 to 7
   pub plain-says : (bs : List Board) → MayRun m bs → let p = plain m bs ks in
-      2 ≤ p.ending → p.ending ≤ 4 → assign_refusal p.machine.facts p.machine.rows ≡ p.ending + 3
+      2 ≤ p.ending → p.ending ≤ 4 → assign_refusal p.machine.table.facts p.machine.table.rows ≡ p.ending + 3
   unfolding plain
   plain-says [] may h k = absurd (omega arith)
   plain-says (b ∷ bs) may h k = first_runs m (b ∷ bs) ks may _ run_says h

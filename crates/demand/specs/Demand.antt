@@ -22,7 +22,7 @@ use Rattle.bench.specs.Play.{Round, Play}
 pub record MayRun (m : Machine) (bs : List Board) : Type 0 where
   pub right : machine_right m ≡ true
   pub idles : is_idle m.moment ≡ true
-  pub begins : assign_refusal m.facts m.rows ≡ 0
+  pub begins : assign_refusal m.table.facts m.table.rows ≡ 0
   pub few : length bs ≤ 32
   pub wide : are_wide bs ≡ true
 
