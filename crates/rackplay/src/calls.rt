@@ -189,7 +189,12 @@ fn read(line: &mut Line, record: &[[u8; 2]], lent: usize) -> fmt::Result {
         Err(fault) => {
             let nothing = readings::bare(Joining::None, Command::None);
             let refusal = fault.refusal.number();
-            write!(line, "refused {refusal} place {} {}", fault.place, Said(&nothing))?;
+            write!(
+                line,
+                "refused {refusal} place {} {}",
+                fault.place,
+                Said(&nothing)
+            )?;
         }
     }
     write!(line, " bytes {}", Bytes(offers))
@@ -209,5 +214,9 @@ fn write(line: &mut Line, reading: Reading, offers: &[u8], lent: usize) -> fmt::
     let mut cells = [BLANK_CELL; MOST_LENT];
     let cells = &mut cells[..lent.min(MOST_LENT)];
     let (refusal, count) = numbered(writer::write(&reading, offers, cells));
-    write!(line, "refused {refusal} place 0 wrote {count} {}", Cells(cells))
+    write!(
+        line,
+        "refused {refusal} place 0 wrote {count} {}",
+        Cells(cells)
+    )
 }

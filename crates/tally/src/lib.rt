@@ -1,9 +1,8 @@
 // How many steps of a group came out right, for a program that holds the code to numbers from outside, and the group's line.
 #![tactic(auto)]
 
-use std::fmt;
-use std::io;
 use std::io::Write;
+use std::{fmt, io};
 
 #[derive(Clone, Copy, Debug, PartialEq, Eq)]
 pub struct Tally {
