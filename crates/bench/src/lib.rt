@@ -10,7 +10,7 @@ ghost use Rattle.bench.specs.Play.{clocks_in};
 ghost use Rattle.bench.specs.Runs.{benched, bench_cells};
 
 mod play;
-mod refusals;
+mod judged;
 
 use boards::Board;
 use machine::Machine;
@@ -69,7 +69,7 @@ pub fn run(
     ensures value { result ≡ benched machine boards count flips.now (length cells.old) }
     ensures cells_after { cells.new ≡ lay (bench_cells machine boards count flips.now (length cells.old)) cells.old }
 {
-    if let Err(refusal) = refusals::run_refusal(&machine, &boards, count, flips, cells.len()) {
+    if let Err(refusal) = judged::run_refusal(&machine, &boards, count, flips, cells.len()) {
         return Ran {
             machine,
             boards,
