@@ -1,6 +1,7 @@
 -- Laws of the machine for the proofs of its functions: one for each way through a function, for `search`.
 use Prim.Native.Nat.{ℕ, ◌≤◌, ◌<◌}
-use mathlib.Core.Path.{◌≡◌, refl, sym, ap, ◌∙◌}
+use mathlib.Core.Path.{◌≡◌, refl, sym, ap, subst, ◌∙◌}
+use mathlib.Core.Logic.{◌⊎◌, inl, inr}
 use mathlib.Core.Bool.{Bool, true, false, cond, not, and-eq-true_iff}
 use mathlib.Core.List.{List}
 use native.Mathlib.Omega.{arith}
@@ -28,11 +29,11 @@ use Rattle.refusals.specs.declared.Refusal.{Refusal}
 use Rattle.refusals.proofs.Laws.{number_not_zero}
 use Rattle.machine.specs.declared.Stepped.{Stepped}
 use Rattle.machine.specs.declared.Moment.{Moment}
-use Rattle.machine.specs.declared.Moment.TheVariants.{Offered, Direct}
+use Rattle.machine.specs.declared.Moment.TheVariants.{Idle, Listening, Offered, Direct}
 use Rattle.machine.specs.Moments.{idle, right_at, moment_right, machine_right, is_idle, is_listening}
 use Rattle.machine.specs.Refusals.{step_refusal, rest_refusal, identity_refusal, ask_refusal}
 use Rattle.machine.specs.Steps.{Step, refuse, address_of, assigned_row, accepted_rows, answer_at}
-use Rattle.machine.specs.Calls.{unless, started, asked, stepped, written}
+use Rattle.machine.specs.Calls.{unless, started, asked, stepped, ComesTo}
 
 -- ---- the rules
 
@@ -111,18 +112,12 @@ rest_passed m {r} {x} {more} e z p = go (machine_right m) (is_idle m.moment) e
     go true false e = absurd (omega arith)
     go true true e = p
 
--- a call that is refused, and one that is not
-pub call_refused : (m : Machine) (s : Step) (r : Refusal) {k : ℕ} {d : Stepped} → number r ≡ k → d ≡ stepped (refuse m (number r)) → d ≡ stepped (unless k m s)
-call_refused m s r e p = rw (← e, ne_eqb (number r) 0 (number_not_zero r)) p
+-- a call that writes nothing: refused, or not
+pub retire_refused : (m : Machine) (s : Step) (r : Refusal) {k : ℕ} {d : Stepped} → number r ≡ k → d ≡ stepped (refuse m (number r)) → d ≡ stepped (unless k m s)
+retire_refused m s r e p = rw (← e, ne_eqb (number r) 0 (number_not_zero r)) p
 
-pub nothing_written : (m : Machine) (s : Step) (r : Refusal) {k : ℕ} {cells : List ℕ} → number r ≡ k → cells ≡ written (unless k m s) cells
-nothing_written m s r e = rw (← e, ne_eqb (number r) 0 (number_not_zero r))
-
-pub call_passed : (m : Machine) (s : Step) {k : ℕ} {d : Stepped} → 0 ≡ k → d ≡ stepped s → d ≡ stepped (unless k m s)
-call_passed m s e p = rw (← e) p
-
-pub call_written : (m : Machine) (s : Step) (entry : List ℕ) {k : ℕ} {exit : List ℕ} → 0 ≡ k → exit ≡ written s entry → exit ≡ written (unless k m s) entry
-call_written m s entry e p = rw (← e) p
+pub retire_passed : (m : Machine) (s : Step) {k : ℕ} {d : Stepped} → 0 ≡ k → d ≡ stepped s → d ≡ stepped (unless k m s)
+retire_passed m s e p = rw (← e) p
 
 pub ask_refused : (m : Machine) (ticket : ℕ) (r : Refusal) → number r ≡ ask_refusal m ticket → record { address = 0; refusal = number r } ≡ asked m ticket
 unfolding asked
@@ -137,15 +132,6 @@ pub start_told : (f : Facts) {k : Checked} {machine : Machine} {r : ℕ} → k �
     → r ≡ cond (facts_right f) 0 1 → record { machine = machine; count = 0; refusal = r } ≡ stepped (started f)
 unfolding started
 start_told f e p q = rw (p, q, e)
-
--- a stepping call that is not refused has room for eight cells
-pub room_enough : (room : ℕ) (m : Machine) (more : ℕ) → 0 ≡ step_refusal room m more → 8 ≤ room
-unfolding step_refusal
-room_enough room m more e = go (ltb room 8) refl e
-  where
-    go : (short : Bool) → ltb room 8 ≡ short → 0 ≡ cond short 11 (cond (not (machine_right m)) 28 more) → 8 ≤ room
-    go true s e = absurd (omega arith)
-    go false s e = ltb-false room 8 s
 
 -- a stepping call has its room, and a machine that keeps the rules
 pub step_right : (room : ℕ) (m : Machine) {r : ℕ} → r ≡ step_refusal room m 0 → r ≡ 0 → machine_right m ≡ true
@@ -194,12 +180,17 @@ eight_heard m bytes room e = let t = simp not-refused at (sym e) in eqb-true byt
 
 -- ---- an answer, or none, at this moment
 
-module _ (m : Machine) (h : Bool) (w : Moment) (at : m.moment ≡ w) where
-  pub answer_stepped : {d : Stepped} → d ≡ stepped (answer_at w m h) → d ≡ stepped (answer_at m.moment m h)
-  answer_stepped e = e ∙ ap (λ (v : Moment). stepped (answer_at v m h)) (sym at)
+pub answer_at_lem : (m : Machine) (h : Bool) (w : Moment) (entry : List ℕ) {exit : List ℕ} {d : Stepped} → m.moment ≡ w → ComesTo (answer_at w m h) entry d exit
+    → ComesTo (answer_at m.moment m h) entry d exit
+answer_at_lem m h w entry {exit} {d} at e = subst (λ (v : Moment). ComesTo (answer_at v m h) entry d exit) (sym at) e
 
-  pub answer_written : (entry : List ℕ) {exit : List ℕ} → exit ≡ written (answer_at w m h) entry → exit ≡ written (answer_at m.moment m h) entry
-  answer_written entry e = e ∙ ap (λ (v : Moment). written (answer_at v m h) entry) (sym at)
+-- at idle and at listening, where it is not of the moment
+pub answer_refused : (m : Machine) (h : Bool) (entry : List ℕ) {d : Stepped} → (m.moment ≡ Idle) ⊎ (m.moment ≡ Listening) → d ≡ stepped (refuse m 10)
+    → ComesTo (answer_at m.moment m h) entry d entry
+answer_refused m h entry at e = elim at [
+  | inl i ↦ answer_at_lem m h Idle entry i (e, refl)
+  | inr l ↦ answer_at_lem m h Listening entry l (e, refl)
+]
 
 -- ---- a ticket left
 

@@ -1,5 +1,5 @@
 // What a call comes to: a step that writes its cells, or a refusal.
-ghost use Rattle.std.specs.Prelude.{◌≡◌, ◌≤◌, [], length};
+ghost use Rattle.std.specs.Prelude.{◌≡◌, ◌≤◌, length};
 ghost use Rattle.refusals.specs.Refusals.{number};
 ghost use Rattle.machine.specs.Steps.{did, refuse};
 ghost use Rattle.machine.specs.Calls.{stepped, ComesTo};
@@ -8,9 +8,9 @@ use crate::{Machine, Stepped};
 use refusals::Refusal;
 
 impl Stepped {
-    // A step: the machine after it, and its cells at the front of the lent ones.
-    pub(crate) fn did(machine: Machine, out: &[u16], cells: &mut [u16]) -> Stepped
-        requires { length out.now ≤ length cells.old }
+    // A step: the machine after it, and its cells at the front of the eight lent.
+    pub(crate) fn did(machine: Machine, out: &[u16], cells: &mut [u16; 8]) -> Stepped
+        requires { length out.now ≤ 8 }
         ensures { ComesTo (did machine out.now) cells.old result cells.new }
     {
         cells[..out.len()].copy_from_slice(out);
@@ -19,13 +19,6 @@ impl Stepped {
             count: out.len(),
             refusal: 0,
         }
-    }
-
-    // A step that is lent no cells, and writes none.
-    pub(crate) fn done(machine: Machine) -> Stepped
-        ensures { result ≡ stepped (did machine []) }
-    {
-        Stepped::did(machine, &[], &mut [])
     }
 
     // A refusal: the machine as it was given, and no cells.

@@ -9,8 +9,9 @@
 //     retire, ask    what becomes of a ticket
 #![tactic(auto)]
 
-ghost use Rattle.std.specs.Prelude.{◌≡◌, length};
+ghost use Rattle.std.specs.Prelude.{◌≡◌, [], length};
 ghost use Rattle.slots.specs.Slots.{facts_of};
+ghost use Rattle.machine.specs.Steps.{did};
 ghost use Rattle.machine.specs.Calls.{begun, answered, identified, given_up, joined, started, retired, asked, stepped, written, ticket_answer};
 
 mod did;
@@ -56,6 +57,19 @@ pub struct Stepped {
     pub refusal: u8,
 }
 
+impl Stepped {
+    // A step of a call that is lent no cells.
+    fn done(machine: Machine) -> Stepped
+        ensures { result ≡ stepped (did machine []) }
+    {
+        Stepped {
+            machine,
+            count: 0,
+            refusal: 0,
+        }
+    }
+}
+
 // An idle machine without rows on these bus facts. Refused 1 if they break a rule, and then the machine has no ticket left to give.
 pub fn start(flags: u8, legacy: &[u8], last: u32) -> Stepped
     ensures { result ≡ stepped (started (facts_of flags legacy.now last)) }
@@ -73,8 +87,11 @@ impl Machine {
         ensures value { result ≡ stepped (begun self choice from new ticket (length cells.old)) }
         ensures cells_after { cells.new ≡ written (begun self choice from new ticket (length cells.old)) cells.old }
     {
-        match self.begin_refusal(choice, from, new, ticket, cells.len()) {
-            Ok(()) => self.beginning(choice, from, new, ticket, cells),
+        let Some(front) = cells.first_chunk_mut() else {
+            return Stepped::refused(self, Refusal::TooFewLent);
+        };
+        match self.begin_refusal(choice, from, new, ticket) {
+            Ok(()) => self.beginning(choice, from, new, ticket, front),
             Err(refusal) => Stepped::refused(self, refusal),
         }
     }
@@ -84,13 +101,16 @@ impl Machine {
         ensures value { result ≡ stepped (answered self heard (length cells.old)) }
         ensures cells_after { cells.new ≡ written (answered self heard (length cells.old)) cells.old }
     {
-        match self.step_refusal(cells.len()) {
+        let Some(front) = cells.first_chunk_mut() else {
+            return Stepped::refused(self, Refusal::TooFewLent);
+        };
+        match self.step_refusal() {
             Ok(()) => match self.moment {
                 Moment::Idle | Moment::Listening => Stepped::refused(self, Refusal::WrongMoment),
-                Moment::Opened => self.opened_answer(heard, cells),
-                Moment::Round => self.round_answer(heard, cells),
-                Moment::Offered => self.offered_answer(heard, cells),
-                Moment::Direct => self.direct_answer(heard, cells),
+                Moment::Opened => self.opened_answer(heard, front),
+                Moment::Round => self.round_answer(heard, front),
+                Moment::Offered => self.offered_answer(heard, front),
+                Moment::Direct => self.direct_answer(heard, front),
             },
             Err(refusal) => Stepped::refused(self, refusal),
         }
@@ -101,8 +121,11 @@ impl Machine {
         ensures value { result ≡ stepped (identified self bytes.now (length cells.old)) }
         ensures cells_after { cells.new ≡ written (identified self bytes.now (length cells.old)) cells.old }
     {
-        match self.identity_refusal(bytes.len(), cells.len()) {
-            Ok(()) => self.listened(identities::eight(bytes), cells),
+        let Some(front) = cells.first_chunk_mut() else {
+            return Stepped::refused(self, Refusal::TooFewLent);
+        };
+        match self.identity_refusal(bytes.len()) {
+            Ok(()) => self.listened(identities::eight(bytes), front),
             Err(refusal) => Stepped::refused(self, refusal),
         }
     }
@@ -112,8 +135,11 @@ impl Machine {
         ensures value { result ≡ stepped (given_up self (length cells.old)) }
         ensures cells_after { cells.new ≡ written (given_up self (length cells.old)) cells.old }
     {
-        match self.give_up_refusal(cells.len()) {
-            Ok(()) => Stepped::did(Machine::idle(self.table), &[parity::STOP], cells),
+        let Some(front) = cells.first_chunk_mut() else {
+            return Stepped::refused(self, Refusal::TooFewLent);
+        };
+        match self.give_up_refusal() {
+            Ok(()) => Stepped::did(Machine::idle(self.table), &[parity::STOP], front),
             Err(refusal) => Stepped::refused(self, refusal),
         }
     }
@@ -123,8 +149,11 @@ impl Machine {
         ensures value { result ≡ stepped (joined self choice (length cells.old)) }
         ensures cells_after { cells.new ≡ written (joined self choice (length cells.old)) cells.old }
     {
-        match self.join_refusal(choice, cells.len()) {
-            Ok(()) => self.joining(choice, cells),
+        let Some(front) = cells.first_chunk_mut() else {
+            return Stepped::refused(self, Refusal::TooFewLent);
+        };
+        match self.join_refusal(choice) {
+            Ok(()) => self.joining(choice, front),
             Err(refusal) => Stepped::refused(self, refusal),
         }
     }

@@ -7,13 +7,10 @@ use crate::Machine;
 use refusals::Refusal;
 
 impl Machine {
-    // What every stepping call asks first: 8 cells lent, and a machine that keeps the rules.
-    pub(crate) fn step_refusal(&self, room: usize) -> Result<(), Refusal>
-        ensures { refusal_of result ≡ step_refusal room self.now 0 }
+    // What every stepping call asks first, with its 8 cells lent: a machine that keeps the rules.
+    pub(crate) fn step_refusal(&self) -> Result<(), Refusal>
+        ensures { refusal_of result ≡ step_refusal 8 self.now 0 }
     {
-        if room < 8 {
-            return Err(Refusal::TooFewLent);
-        }
         if !self.is_right() {
             return Err(Refusal::BrokenMachine);
         }
@@ -26,31 +23,30 @@ impl Machine {
         from: u8,
         new: u8,
         ticket: u32,
-        room: usize,
     ) -> Result<(), Refusal>
-        ensures { refusal_of result ≡ begin_refusal self.now choice from new ticket room }
+        ensures { refusal_of result ≡ begin_refusal self.now choice from new ticket 8 }
     {
-        self.step_refusal(room)?;
+        self.step_refusal()?;
         if !self.is_idle() {
             return Err(Refusal::WrongMoment);
         }
         begins::choice_refusal(&self.table, choice, from, new, ticket)
     }
 
-    pub(crate) fn join_refusal(&self, choice: u8, room: usize) -> Result<(), Refusal>
-        ensures { refusal_of result ≡ join_refusal self.now choice room }
+    pub(crate) fn join_refusal(&self, choice: u8) -> Result<(), Refusal>
+        ensures { refusal_of result ≡ join_refusal self.now choice 8 }
     {
-        self.step_refusal(room)?;
+        self.step_refusal()?;
         if !self.is_idle() {
             return Err(Refusal::WrongMoment);
         }
         begins::joining_refusal(&self.table, choice)
     }
 
-    pub(crate) fn identity_refusal(&self, count: usize, room: usize) -> Result<(), Refusal>
-        ensures { refusal_of result ≡ identity_refusal self.now count room }
+    pub(crate) fn identity_refusal(&self, count: usize) -> Result<(), Refusal>
+        ensures { refusal_of result ≡ identity_refusal self.now count 8 }
     {
-        self.step_refusal(room)?;
+        self.step_refusal()?;
         if !self.is_listening() {
             return Err(Refusal::WrongMoment);
         }
@@ -60,10 +56,10 @@ impl Machine {
         Ok(())
     }
 
-    pub(crate) fn give_up_refusal(&self, room: usize) -> Result<(), Refusal>
-        ensures { refusal_of result ≡ give_up_refusal self.now room }
+    pub(crate) fn give_up_refusal(&self) -> Result<(), Refusal>
+        ensures { refusal_of result ≡ give_up_refusal self.now 8 }
     {
-        self.step_refusal(room)?;
+        self.step_refusal()?;
         if self.is_idle() {
             return Err(Refusal::WrongMoment);
         }

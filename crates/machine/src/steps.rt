@@ -1,4 +1,4 @@
-// What the machine does at each moment. Each step is lent at least 8 cells, and writes its own at the front.
+// What the machine does at each moment. Each step is lent 8 cells, and writes its own at the front.
 ghost use Rattle.std.specs.Prelude.{◌≡◌, ◌≤◌, cond, ◌<◌, eqb, length};
 ghost use Rattle.rows.specs.Rows.{place_of_address, place_of_ticket};
 ghost use Rattle.changes.specs.Changes.{moved, without};
@@ -141,9 +141,8 @@ impl Machine {
         from: u8,
         new: u8,
         ticket: u32,
-        cells: &mut [u16],
+        cells: &mut [u16; 8],
     ) -> Stepped
-        requires { 8 ≤ length cells.old }
         ensures { ComesTo (beginning self.now choice from new ticket) cells.old result cells.new }
     {
         let asked = address_asked(&self.table.rows, choice, from, ticket);
@@ -155,8 +154,7 @@ impl Machine {
     //     choice 0: 512 9 514   turned away
     //     choice 1: 512 8 513   opened for silence
     //     choice 2: 512 8 513   opened for assign
-    pub(crate) fn joining(&self, choice: u8, cells: &mut [u16]) -> Stepped
-        requires { 8 ≤ length cells.old }
+    pub(crate) fn joining(&self, choice: u8, cells: &mut [u16; 8]) -> Stepped
         ensures { ComesTo (joining self.now choice) cells.old result cells.new }
     {
         if choice == JOIN_REFUSED {
@@ -176,8 +174,7 @@ impl Machine {
     // ---- opened
 
     // A set's or a move's command, and on to direct: 504, the command, 513.
-    fn on_to_direct(&self, command: u16, cells: &mut [u16]) -> Stepped
-        requires { 8 ≤ length cells.old }
+    fn on_to_direct(&self, command: u16, cells: &mut [u16; 8]) -> Stepped
         ensures { ComesTo (on_to_direct self.now command) cells.old result cells.new }
     {
         let next = Machine::direct(self.table, self.choice, self.asked, self.wanted);
@@ -190,8 +187,7 @@ impl Machine {
     }
 
     // A command about joining, and back to idle: 504, the command, 16, 514.
-    fn about_joining(&self, command: u16, cells: &mut [u16]) -> Stepped
-        requires { 8 ≤ length cells.old }
+    fn about_joining(&self, command: u16, cells: &mut [u16; 8]) -> Stepped
         ensures { ComesTo (about_joining self.now command) cells.old result cells.new }
     {
         let out = [
@@ -210,8 +206,7 @@ impl Machine {
     //     3 move              504 273 513     direct
     //     4 silence           504 2 16 514    idle
     //     5 allow             504 1 16 514    idle
-    fn commanded(&self, cells: &mut [u16]) -> Stepped
-        requires { 8 ≤ length cells.old }
+    fn commanded(&self, cells: &mut [u16; 8]) -> Stepped
         ensures { ComesTo (commanded self.now) cells.old result cells.new }
     {
         match self.choice {
@@ -244,8 +239,7 @@ impl Machine {
     }
 
     // 7Eh/W answered: by command. No answer: 505 514, idle, nothing changed.
-    pub(crate) fn opened_answer(&self, heard: bool, cells: &mut [u16]) -> Stepped
-        requires { 8 ≤ length cells.old }
+    pub(crate) fn opened_answer(&self, heard: bool, cells: &mut [u16; 8]) -> Stepped
         ensures { ComesTo (opened_answer self.now heard) cells.old result cells.new }
     {
         if heard {
@@ -259,8 +253,7 @@ impl Machine {
     // ---- round
 
     // 7Eh/R answered: 506, listening. No answer: 507 514, idle.
-    pub(crate) fn round_answer(&self, heard: bool, cells: &mut [u16]) -> Stepped
-        requires { 8 ≤ length cells.old }
+    pub(crate) fn round_answer(&self, heard: bool, cells: &mut [u16; 8]) -> Stepped
         ensures { ComesTo (round_answer self.now heard) cells.old result cells.new }
     {
         if heard {
@@ -275,8 +268,7 @@ impl Machine {
     // ---- listening
 
     // Eight identity bytes: their cells; then the address for that identity is offered.
-    pub(crate) fn listened(&self, bytes: [u8; 8], cells: &mut [u16]) -> Stepped
-        requires { 8 ≤ length cells.old }
+    pub(crate) fn listened(&self, bytes: [u8; 8], cells: &mut [u16; 8]) -> Stepped
         ensures { ComesTo (listened self.now bytes) cells.old result cells.new }
     {
         let identity = identities::number(bytes);
@@ -288,9 +280,8 @@ impl Machine {
     // ---- offered
 
     // The offer is accepted: the address cell, the row, then the round rule.
-    fn accepted(&self, cells: &mut [u16]) -> Stepped
-        requires room { 8 ≤ length cells.old }
-        requires ticket { self.now.table.facts.last < 4294967295 }
+    fn accepted(&self, cells: &mut [u16; 8]) -> Stepped
+        requires { self.now.table.facts.last < 4294967295 }
         ensures { ComesTo (accepted self.now) cells.old result cells.new }
     {
         let facts = ticketed(self.table.facts);
@@ -306,8 +297,7 @@ impl Machine {
     }
 
     // The offer is refused: the address cell; on to a round, but after two in succession to idle.
-    fn declined(&self, cells: &mut [u16]) -> Stepped
-        requires { 8 ≤ length cells.old }
+    fn declined(&self, cells: &mut [u16; 8]) -> Stepped
         ensures { ComesTo (declined self.now) cells.old result cells.new }
     {
         let on = self.refusals == 0;
@@ -319,9 +309,8 @@ impl Machine {
         )
     }
 
-    pub(crate) fn offered_answer(&self, heard: bool, cells: &mut [u16]) -> Stepped
-        requires room { 8 ≤ length cells.old }
-        requires ticket { self.now.table.facts.last < 4294967295 }
+    pub(crate) fn offered_answer(&self, heard: bool, cells: &mut [u16; 8]) -> Stepped
+        requires { self.now.table.facts.last < 4294967295 }
         ensures { ComesTo (offered_answer self.now heard) cells.old result cells.new }
     {
         if heard {
@@ -356,9 +345,8 @@ impl Machine {
     }
 
     // The header answered: its cell, the new address as data, 514. No answer: the header's cell, 514, nothing changed.
-    pub(crate) fn direct_answer(&self, heard: bool, cells: &mut [u16]) -> Stepped
-        requires room { 8 ≤ length cells.old }
-        requires ticket { self.now.choice ≡ 2 → self.now.table.facts.last < 4294967295 }
+    pub(crate) fn direct_answer(&self, heard: bool, cells: &mut [u16; 8]) -> Stepped
+        requires { self.now.choice ≡ 2 → self.now.table.facts.last < 4294967295 }
         ensures { ComesTo (direct_answer self.now heard) cells.old result cells.new }
     {
         let header = parity::answer_cell(parity::write_byte(self.asked), heard);

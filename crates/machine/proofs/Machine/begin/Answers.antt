@@ -1,17 +1,22 @@
 -- `machine::Machine::begin` meets its contract.
-use Rattle.machine.proofs.Laws.{call_refused, nothing_written, call_passed, call_written, room_enough}
+use Rattle.machine.proofs.Emits.{few_lent, call_refused, call_passed, beginning_short}
 use Rattle.machine.specs.Calls.{begun}
 use Rattle.machine.specs.Refusals.{begin_refusal}
 use Rattle.machine.proofs.Machine.begin.Goals as goal
 
-pub beginning-requires : goal.beginning-requires
-unfolding begin_refusal
-beginning-requires c = room_enough _ _ _ c.in-Ok.ensures
+pub returns-in_default : goal.returns-in_default
+unfolding begun begin_refusal
+returns-in_default c =
+    let d = few_lent _ _ _ c.args.cells.now c.in_default.ensures.cases c.refused.ensures in record { value = d.0; cells_after = d.1 }
 
 pub returns-in-Ok : goal.returns-in-Ok
-unfolding begun
-returns-in-Ok c = let e = c.in-Ok.ensures in search (call_passed, call_written)
+unfolding begun begin_refusal
+returns-in-Ok c =
+    let d = call_passed _ _ _ _ c.in-Some.ensures.cases c.in-Ok.ensures (beginning_short _ _ _ _ _) c.beginning.ensures in
+    record { value = d.0; cells_after = d.1 }
 
 pub returns-in-Err : goal.returns-in-Err
-unfolding begun
-returns-in-Err c = let e = c.in-Err.ensures in search (call_refused, nothing_written)
+unfolding begun begin_refusal
+returns-in-Err c =
+    let d = call_refused _ _ _ _ c.in-Some.ensures.cases _ c.in-Err.ensures c.refused-in-Err.ensures in
+    record { value = d.0; cells_after = d.1 }

@@ -1,21 +1,23 @@
 -- `machine::Machine::give_up` meets its contract.
-use Rattle.std.proofs.Common.{arith}
-use Rattle.machine.proofs.Laws.{call_refused, nothing_written, call_passed, call_written, room_enough}
+use Rattle.std.proofs.Common.{lit≤}
+use Rattle.machine.proofs.Emits.{few_lent, call_refused, call_passed}
 use Rattle.machine.specs.Calls.{given_up}
 use Rattle.machine.specs.Refusals.{give_up_refusal}
 use Rattle.machine.proofs.Machine.give_up.Goals as goal
 
-pub did-requires : goal.did-requires
-unfolding give_up_refusal
-did-requires c = let room = room_enough _ _ _ c.in-Ok.ensures in omega arith
+pub returns-in_default : goal.returns-in_default
+unfolding given_up give_up_refusal
+returns-in_default c =
+    let d = few_lent _ _ _ c.args.cells.now c.in_default.ensures.cases c.refused.ensures in record { value = d.0; cells_after = d.1 }
 
 pub returns-in-Ok : goal.returns-in-Ok
-unfolding given_up
+unfolding given_up give_up_refusal
 returns-in-Ok c =
-    let e = c.in-Ok.ensures in
-    let d = rw c.idle.ensures at c.did.ensures in
-    search (call_passed, call_written)
+    let d = call_passed _ _ _ _ c.in-Some.ensures.cases c.in-Ok.ensures (lit≤ tt) (rw c.idle.ensures at c.did.ensures) in
+    record { value = d.0; cells_after = d.1 }
 
 pub returns-in-Err : goal.returns-in-Err
-unfolding given_up
-returns-in-Err c = let e = c.in-Err.ensures in search (call_refused, nothing_written)
+unfolding given_up give_up_refusal
+returns-in-Err c =
+    let d = call_refused _ _ _ _ c.in-Some.ensures.cases _ c.in-Err.ensures c.refused-in-Err.ensures in
+    record { value = d.0; cells_after = d.1 }

@@ -1,17 +1,22 @@
 -- `machine::Machine::join` meets its contract.
-use Rattle.machine.proofs.Laws.{call_refused, nothing_written, call_passed, call_written, room_enough}
+use Rattle.machine.proofs.Emits.{few_lent, call_refused, call_passed, joining_short}
 use Rattle.machine.specs.Calls.{joined}
 use Rattle.machine.specs.Refusals.{join_refusal}
 use Rattle.machine.proofs.Machine.join.Goals as goal
 
-pub joining-requires : goal.joining-requires
-unfolding join_refusal
-joining-requires c = room_enough _ _ _ c.in-Ok.ensures
+pub returns-in_default : goal.returns-in_default
+unfolding joined join_refusal
+returns-in_default c =
+    let d = few_lent _ _ _ c.args.cells.now c.in_default.ensures.cases c.refused.ensures in record { value = d.0; cells_after = d.1 }
 
 pub returns-in-Ok : goal.returns-in-Ok
-unfolding joined
-returns-in-Ok c = let e = c.in-Ok.ensures in search (call_passed, call_written)
+unfolding joined join_refusal
+returns-in-Ok c =
+    let d = call_passed _ _ _ _ c.in-Some.ensures.cases c.in-Ok.ensures (joining_short _ _) c.joining.ensures in
+    record { value = d.0; cells_after = d.1 }
 
 pub returns-in-Err : goal.returns-in-Err
-unfolding joined
-returns-in-Err c = let e = c.in-Err.ensures in search (call_refused, nothing_written)
+unfolding joined join_refusal
+returns-in-Err c =
+    let d = call_refused _ _ _ _ c.in-Some.ensures.cases _ c.in-Err.ensures c.refused-in-Err.ensures in
+    record { value = d.0; cells_after = d.1 }

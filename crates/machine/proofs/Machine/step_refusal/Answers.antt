@@ -3,10 +3,6 @@ use Rattle.lists.proofs.Bools.{chain}
 use Rattle.machine.specs.Refusals.{step_refusal}
 use Rattle.machine.proofs.Machine.step_refusal.Goals as goal
 
-pub returns-then-room-lt8 : goal.returns-then-room-lt8
-unfolding step_refusal
-returns-then-room-lt8 c = search chain
-
 pub returns-then-not-is_right : goal.returns-then-not-is_right
 unfolding step_refusal
 returns-then-not-is_right c = search chain
