@@ -1,7 +1,7 @@
 // The step machine: it hands out addresses and tickets, one step of the bus after the other.
 //
-// A machine goes into every call by value, and the call hands it back. A call that writes is lent cells, writes from the first place on, and
-// says how many; what lies behind them stays. A refused call hands back the machine as it was given, and writes nothing.
+// A machine goes into every call by value, and the call hands it back. A call that writes is lent at least 8 cells, writes from the first place on,
+// and says how many; what lies behind them stays. A refused call hands back the machine as it was given, and writes nothing.
 //
 //     start          an idle machine on these bus facts
 //     begin, join    from idle; then `answer` and `identity` as the moment asks, until it is idle again
@@ -20,6 +20,7 @@ mod moments;
 mod refused;
 mod steps;
 
+pub use moments::UnknownMoment;
 use refusals::Refusal;
 use table::Table;
 
