@@ -151,7 +151,7 @@ module _ {behind : List Board} {buffer : List ℕ} {kept : Played} {stand : List
       {a : Played} {stand₂ : List ℕ}
       (handed₂ : a ≡ told l (stepped (answered l.machine (someone && odd) (length stand₁ - l.at))))
       (left₂ : stand₂ ≡ lay_at l.at (answered l.machine (someone && odd) (length stand₁ - l.at)).cells stand₁)
-      {after : List Board} (saw : after ≡ after_byte byte heard.still kept.boards)
+      {after : List Board} (saw : after ≡ after_byte byte heard.still a.boards)
       {end : ℕ} (ends : end ≡ cond (is_idle a.machine.moment) (offer_ending (someone && odd) a.machine.table.facts a.machine.table.rows) 0) where
     seen : byte ≡ byte_seen flip (listened (length buffer) h p)
     seen = flips ∙ ap (flipped flip) (offers ∙ ap (λ (m : Machine). offered_byte m.offered) listened-kept.machine)
@@ -160,7 +160,7 @@ module _ {behind : List Board} {buffer : List ℕ} {kept : Played} {stand : List
     taken = ap₂ ◌&&◌ (stays ∙ ap anyone nobody ∙ anyone_behind h.still (length behind)) (ones ∙ ap odd_ones seen)
 
     pub offer-kept :
-        Keeps behind buffer (record { machine = a.machine; boards = after; at = a.at; rounds = kept.rounds + 1; ending = end }) stand₂
+        Keeps behind buffer (record { machine = a.machine; boards = after; at = a.at; rounds = a.rounds + 1; ending = end }) stand₂
         (offered_on (length buffer) flip h p)
     unfolding offered_on
     offer-kept =
@@ -173,10 +173,12 @@ module _ {behind : List Board} {buffer : List ℕ} {kept : Played} {stand : List
         let by : a ≡ told l (stepped (answered l.machine took room)) = handed₂ ∙ ap (λ t. told l (stepped (answered l.machine t room))) taken in
         let on : stand₂ ≡ lay_at l.at (answered l.machine took room).cells stand₁ =
         left₂ ∙ ap (λ t. lay_at l.at (answered l.machine t room).cells stand₁) taken in
+        let boards : a.boards ≡ kept.boards = ap (λ (t : Played). t.boards) handed₂ ∙ ap (λ (t : Played). t.boards) handed in
+        let rounds : a.rounds ≡ kept.rounds = ap (λ (t : Played). t.rounds) handed₂ ∙ ap (λ (t : Played). t.rounds) handed in
         keeps_onward call short listened-kept by on
-        (saw ∙ ap₂ (λ (fs : List Bool) (bs : List Board). after_byte byte fs bs) nobody k.boards ∙ after_behind byte h.still p.boards behind long
+        (saw ∙ ap₂ (λ (fs : List Bool) (bs : List Board). after_byte byte fs bs) nobody (boards ∙ k.boards) ∙ after_behind byte h.still p.boards behind long
         ∙ ap (λ n. after_byte n h.still p.boards ++ behind) seen)
-        (omega (arith, k.rounds, length-append p.rounds (round_of byte' h q ∷ [])))
+        (omega (arith, rounds, k.rounds, length-append p.rounds (round_of byte' h q ∷ [])))
         (ends ∙ ap₂ (ending_at) taken (keeps_machine call short listened-kept by on))
 
 -- ---- a round
@@ -210,13 +212,13 @@ module _ {behind : List Board} {buffer : List ℕ} {kept : Played} {stand : List
       (λ t. absurd (true≢false (sym t ∙ sym heard_it ∙ e))) (λ _. headed-kept)
 
   -- an answered one, and an offer that leads on
-  pub answered_kept : heard ≡ true → {then : Heard} → then ≡ hear 64 kept.boards still 0 → {kept' : Played} {stand₂ : List ℕ}
+  pub answered_kept : heard ≡ true → {then : Heard} → then ≡ hear 64 a.boards still 0 → {kept' : Played} {stand₂ : List ℕ}
       → KeepsOffer then flip a stand₁ kept' stand₂ → Keeps behind buffer kept' stand₂ (round_on (length buffer) flip p)
   unfolding round_on
   answered_kept e {then} hears {kept'} {stand₂} leads =
       let bs = p.boards in
       let long : length (waiting bs) ≡ length bs = length-map bs waits in
-      let same = hears ∙ ap₂ (λ (l : List Board) (fs : List Bool). hear 64 l fs 0) k.boards in_round ∙ hear_behind 64 bs behind (waiting bs) 0 long in
+      let same = hears ∙ ap₂ (λ (l : List Board) (fs : List Bool). hear 64 l fs 0) (ap (λ (t : Played). t.boards) handed ∙ k.boards) in_round ∙ hear_behind 64 bs behind (waiting bs) 0 long in
       cond_by (λ (q : Play). Keeps behind buffer kept' stand₂ q) (anyone (waiting bs))
       (λ _.
       leads behind buffer (headed (length buffer) p) (hear 64 bs (waiting bs) 0) (still_long 64 bs (waiting bs) 0 long)

@@ -59,76 +59,68 @@ fn opened(machine: Machine, boards: [Board; 32], count: usize, cells: &mut [u16]
 {
     let begun = machine.begin(begins::ASSIGN, 0, 0, 0, cells);
     let heard = 0 < count;
-    let run = Played {
+    let mut run = Played {
         machine: begun.machine,
         boards,
         at: begun.count,
         rounds: 0,
         ending: if heard { NOBODY_LEFT } else { NO_BOARDS },
     };
-    run.answered(heard, cells)
+    run.answer(heard, cells);
+    run
 }
 
 impl Played {
-    // Behind an answer to the machine, or none.
-    fn answered(self, heard: bool, cells: &mut [u16]) -> Played
-        requires { self.at ≤ length cells.old }
-        ensures value { result ≡ told self (stepped (answered self.machine heard (length cells.old - self.at))) }
-        ensures cells_after { cells.new ≡ lay_at self.at (answered self.machine heard (length cells.old - self.at)).cells cells.old }
+    // The machine is answered, or not.
+    fn answer(&mut self, heard: bool, cells: &mut [u16])
+        requires { self.old.at ≤ length cells.old }
+        ensures value { self.new ≡ told self.old (stepped (answered self.old.machine heard (length cells.old - self.old.at))) }
+        ensures cells_after { cells.new ≡ lay_at self.old.at (answered self.old.machine heard (length cells.old - self.old.at)).cells cells.old }
     {
         let step = self.machine.answer(heard, &mut cells[self.at..]);
-        Played {
-            machine: step.machine,
-            at: self.at + step.count,
-            ..self
-        }
+        self.machine = step.machine;
+        self.at += step.count;
     }
 
-    // Behind the eight bytes of an identity, highest first, that the machine is told.
-    fn identified(self, identity: u64, cells: &mut [u16]) -> Played
-        requires { self.at ≤ length cells.old }
-        ensures value { result ≡ told self (stepped (identified self.machine (bytes_of 8 identity) (length cells.old - self.at))) }
-        ensures cells_after { cells.new ≡ lay_at self.at (identified self.machine (bytes_of 8 identity) (length cells.old - self.at)).cells cells.old }
+    // The machine is told the eight bytes of an identity, highest first.
+    fn identify(&mut self, identity: u64, cells: &mut [u16])
+        requires { self.old.at ≤ length cells.old }
+        ensures value { self.new ≡ told self.old (stepped (identified self.old.machine (bytes_of 8 identity) (length cells.old - self.old.at))) }
+        ensures cells_after { cells.new ≡ lay_at self.old.at (identified self.old.machine (bytes_of 8 identity) (length cells.old - self.old.at)).cells cells.old }
     {
         let step = self
             .machine
             .identity(&identity.to_be_bytes(), &mut cells[self.at..]);
-        Played {
-            machine: step.machine,
-            at: self.at + step.count,
-            ..self
-        }
+        self.machine = step.machine;
+        self.at += step.count;
     }
 
     // Behind the bits of the identities: the machine is told what was heard, and all see the address byte that it offers, perhaps with one bit flipped.
-    fn offered(self, heard: &Heard, flip: u8, cells: &mut [u16]) -> Played
-        requires { (self.at ≤ length cells.old) × (self.rounds < 65) }
-        ensures { KeepsOffer heard.now flip self cells.old result cells.new }
+    fn offer(&mut self, heard: &Heard, flip: u8, cells: &mut [u16])
+        requires { (self.old.at ≤ length cells.old) × (self.old.rounds < 65) }
+        ensures { KeepsOffer heard.now flip self.old cells.old self.new cells.new }
     {
-        let offers = self.identified(heard.identity, cells);
-        let byte = parity::flipped(flip, parity::offered_byte(offers.machine.offered));
+        self.identify(heard.identity, cells);
+        let byte = parity::flipped(flip, parity::offered_byte(self.machine.offered));
         let taken = boards::anyone(&heard.still) & parity::odd_ones(byte);
-        let then = offers.answered(taken, cells);
-        Played {
-            boards: boards::offer(&self.boards, &heard.still, byte),
-            rounds: self.rounds + 1,
-            ending: ending(taken, &then.machine),
-            ..then
-        }
+        self.answer(taken, cells);
+        self.boards = boards::offer(&self.boards, &heard.still, byte);
+        self.rounds += 1;
+        self.ending = ending(taken, &self.machine);
     }
 
-    // Behind a round: its header, which only boards without an address answer; then they send their identities, all at once.
-    fn round(self, count: usize, flip: u8, cells: &mut [u16]) -> Played
-        requires { (self.at ≤ length cells.old) × (self.rounds < 65) }
-        ensures { KeepsRound count flip self cells.old result cells.new }
+    // A round: its header, which only boards without an address answer; then they send their identities, all at once.
+    fn round(&mut self, count: usize, flip: u8, cells: &mut [u16])
+        requires { (self.old.at ≤ length cells.old) × (self.old.rounds < 65) }
+        ensures { KeepsRound count flip self.old cells.old self.new cells.new }
     {
         let still = boards::waiting(&self.boards, count);
         let heard = boards::anyone(&still);
-        let next = self.answered(heard, cells);
-        if !heard {
-            return next;
+        self.answer(heard, cells);
+        if heard {
+            let identities = boards::listen(&self.boards, &still);
+            self.offer(&identities, flip, cells);
         }
-        next.offered(&boards::listen(&self.boards, &still), flip, cells)
     }
 }
 
@@ -148,7 +140,7 @@ pub fn play(
         if run.machine.is_idle() {
             return run;
         }
-        run = run.round(count, flip_at(flips, i), cells);
+        run.round(count, flip_at(flips, i), cells);
     }
     run
 }

@@ -13,7 +13,7 @@ pub returns : goal.returns
 returns c =
     let a = c.args in
     let begun = c.begin-begun.ensures in
-    let answered = c.answered.ensures in
+    let answered = c.answer.ensures in
     let long : length a.boards ≡ 32 = search rules in
     let ends : c.if-heard.run ≡ cond (ltb 0 a.count) 0 5 =
     elim c.if-heard.branch [

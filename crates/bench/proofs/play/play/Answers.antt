@@ -8,12 +8,6 @@ use Rattle.bench.proofs.play.play.Goals as goal
 pub loop-i-init : goal.loop-i-init
 loop-i-init c = playing_start _ _ _ _
 
-pub shape_of-cells-then-is_idle : goal.shape_of-cells-then-is_idle
-shape_of-cells-then-is_idle c =
-    let a = c.args in
-    let long : length a.boards ≡ 32 = search rules in
-    played_long a.machine a.boards c.requires long c.opened-run.ensures c.loop-i.invariant
-
 pub returns-then-is_idle : goal.returns-then-is_idle
 returns-then-is_idle c =
     let a = c.args in
@@ -21,8 +15,8 @@ returns-then-is_idle c =
     played_idle a.machine a.boards c.requires long c.opened-run.ensures c.loop-i.invariant
     c.loop-i-test.true c.is_idle.ensures c.if-is_idle.true
 
-pub round-run-requires : goal.round-run-requires
-round-run-requires c =
+pub round-requires : goal.round-requires
+round-requires c =
     let a = c.args in
     let long : length a.boards ≡ 32 = search rules in
     may_play a.machine a.boards c.requires long c.opened-run.ensures c.loop-i.invariant
@@ -31,13 +25,7 @@ round-run-requires c =
 pub loop-i-preserved : goal.loop-i-preserved
 loop-i-preserved c =
     playing_turn c.loop-i.invariant c.loop-i-test.true c.is_idle.ensures c.if-is_idle.false c.flip_at.ensures
-    c.round-run.ensures
-
-pub shape_of-cells : goal.shape_of-cells
-shape_of-cells c =
-    let a = c.args in
-    let long : length a.boards ≡ 32 = search rules in
-    played_long a.machine a.boards c.requires long c.opened-run.ensures c.loop-i.invariant
+    c.round.ensures
 
 pub returns : goal.returns
 returns c =

@@ -5,17 +5,16 @@ use borrow.Author.Rules.{rules}
 use Rattle.bench.proofs.Keeping.{silent_kept, answered_kept}
 use Rattle.bench.proofs.play.Played.round.Goals as goal
 
-pub returns-then-not-heard : goal.returns-then-not-heard
-returns-then-not-heard c behind buffer p many k =
+pub returns-then-heard : goal.returns-then-heard
+returns-then-heard c behind buffer p many k =
     let a = c.args in
-    let places : length a.self.boards ≡ 32 = search rules in
-    let answered = c.answered-next.ensures in
-    silent_kept k a.count a.flip many places c.waiting-still.ensures c.anyone-heard.ensures answered.value answered.cells_after c.if-not-heard.true
+    let places : length a.self.now.boards ≡ 32 = search rules in
+    answered_kept k a.count a.flip many places c.waiting-still.ensures c.anyone-heard.ensures c.answer.ensures.value c.answer.ensures.cells_after
+    c.if-heard.true c.listen-identities.ensures c.offer.ensures
 
-pub returns : goal.returns
-returns c behind buffer p many k =
+pub returns-else-heard : goal.returns-else-heard
+returns-else-heard c behind buffer p many k =
     let a = c.args in
-    let places : length a.self.boards ≡ 32 = search rules in
-    let answered = c.answered-next.ensures in
-    answered_kept k a.count a.flip many places c.waiting-still.ensures c.anyone-heard.ensures answered.value answered.cells_after c.if-not-heard.false
-    c.listen.ensures c.offered.ensures
+    let places : length a.self.now.boards ≡ 32 = search rules in
+    silent_kept k a.count a.flip many places c.waiting-still.ensures c.anyone-heard.ensures c.answer.ensures.value c.answer.ensures.cells_after
+    c.if-heard.false

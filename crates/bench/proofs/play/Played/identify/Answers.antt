@@ -1,9 +1,9 @@
--- `bench::play::Played::identified` meets its contract: the machine is lent a part of the cells.
+-- `bench::play::Played::identify` meets its contract: the machine is lent a part of the cells.
 use mathlib.Core.Path.{◌∙◌}
 use Rattle.std.proofs.Common.{rules, arith}
 use Rattle.std.proofs.lemmas.Grind.{common_steps}
 use Rattle.lists.proofs.Bits.{bytes_eight}
-use Rattle.bench.proofs.play.Played.identified.Goals as goal
+use Rattle.bench.proofs.play.Played.identify.Goals as goal
 
 pub returns-clause-value : goal.returns-clause-value
 returns-clause-value c =
