@@ -27,7 +27,6 @@ use Rattle.machine.specs.Calls.{stepped, written, begun, answered, identified}
 use Rattle.machine.proofs.Emits.{begun_fits, answered_fits, identified_fits}
 use Rattle.bench.specs.declared.play.Played.{Played}
 use Rattle.bench.specs.Play.{Round, Play, offer_ending}
-use Rattle.bench.specs.Wire.{begins}
 use Rattle.bench.specs.Wire.{calls, onward, any_board, opened, called, listened, byte_seen, is_taken, round_of, ending_at, headed, offered_on, round_on}
 use Rattle.bench.specs.Keeps.{told, Keeps, KeepsOffer}
 

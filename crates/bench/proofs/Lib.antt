@@ -4,7 +4,6 @@ pub mod Rounds
 pub mod Same
 pub mod Counts
 pub mod Ends
-pub mod Lent
 pub mod Keeping
 pub mod Playing
 pub mod Refused

@@ -1,5 +1,5 @@
 -- What a run is: its record, its rounds, and how it ended.
-use Rattle.std.specs.Prelude.{ℕ, ◌+◌, Bool, true, cond, List, [], ◌∷◌, eqb, sum_by}
+use Rattle.std.specs.Prelude.{ℕ, Bool, true, cond, List, [], ◌∷◌, eqb, sum_by}
 use Rattle.lists.specs.Lists.{count}
 use Rattle.parity.specs.Cells.{clocks, broadcast_read}
 use Rattle.slots.specs.declared.Facts.{Facts}

@@ -10,7 +10,7 @@ ghost use Rattle.bench.specs.Play.{clocks_in};
 ghost use Rattle.bench.specs.Runs.{benched, bench_cells};
 
 mod play;
-mod judged;
+mod refusing;
 
 use boards::Board;
 use machine::Machine;
@@ -20,6 +20,7 @@ use play::Played;
 pub const MOST_CELLS: usize = 1024;
 
 // Endings: a round header was silent; two refusals in succession; 32 rows; no free address; no ticket left; the first header was silent.
+// (Kept as numbers: the definitions of a run and the theorems over them speak of its ending by its number.)
 pub const NOBODY_LEFT: u8 = 0;
 
 pub const TWO_REFUSALS: u8 = 1;
@@ -34,6 +35,7 @@ pub const NO_BOARDS: u8 = 5;
 
 // What a run hands back: the machine, the boards, how many cells it wrote, its ending, the answered rounds and the clocks of these cells, and its refusal,
 // 0 for none. A refused run has 0 in every other number.
+// (Kept as numbers: document 01 has counters in the bench's result, and the theorems of `demand` and `lent` speak of its fields.)
 #[derive(Clone, Copy)]
 pub struct Ran {
     pub machine: Machine,
@@ -69,7 +71,7 @@ pub fn run(
     ensures value { result ≡ benched machine boards count flips.now (length cells.old) }
     ensures cells_after { cells.new ≡ lay (bench_cells machine boards count flips.now (length cells.old)) cells.old }
 {
-    if let Err(refusal) = judged::run_refusal(&machine, &boards, count, flips, cells.len()) {
+    if let Err(refusal) = refusing::run_refusal(&machine, &boards, count, flips, cells.len()) {
         return Ran {
             machine,
             boards,

@@ -1,5 +1,5 @@
 -- `bench::run` meets its contract: a run on the wire is kept by the plain rule.
-use mathlib.Core.Path.{◌∙◌, refl}
+use mathlib.Core.Path.{refl}
 use Rattle.refusals.proofs.Laws.{number_not_zero}
 use Rattle.bench.proofs.Given.{first_wide}
 use Rattle.bench.proofs.Benched.{allowed, run_refused, run_short, run_played}

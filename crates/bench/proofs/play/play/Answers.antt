@@ -1,7 +1,7 @@
 -- `bench::play::play` meets its contract: a loop that plays rounds until the machine is idle.
 use mathlib.Core.Path.{◌≡◌}
 use lib.ListN.{length}
-use Rattle.bench.proofs.Playing.{playing_start, playing_turn, played_long, may_play, played_idle, played_all}
+use Rattle.bench.proofs.Playing.{playing_start, playing_turn, may_play, played_idle, played_all}
 use borrow.Author.Rules.{rules}
 use Rattle.bench.proofs.play.play.Goals as goal
 

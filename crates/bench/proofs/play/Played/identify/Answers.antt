@@ -1,6 +1,6 @@
 -- `bench::play::Played::identify` meets its contract: the machine is lent a part of the cells.
 use mathlib.Core.Path.{◌∙◌}
-use Rattle.std.proofs.Common.{rules, arith}
+use Rattle.std.proofs.Common.{arith}
 use Rattle.std.proofs.lemmas.Grind.{common_steps}
 use Rattle.lists.proofs.Bits.{bytes_eight}
 use Rattle.bench.proofs.play.Played.identify.Goals as goal

@@ -1,11 +1,11 @@
--- `bench::judged::run_refusal` meets its contract: a chain of tests.
+-- `bench::refusing::run_refusal` meets its contract: a chain of tests.
 use Rattle.lists.proofs.Bools.{chain}
 use Rattle.refusals.proofs.Laws.{number_not_zero}
 use Rattle.begins.specs.Begins.{choice_refusal}
-use Rattle.machine.proofs.Laws.{passed_on, rest_refused, rest_passed}
+use Rattle.machine.proofs.Laws.{passed_on, rest_refused}
 use Rattle.bench.specs.Runs.{run_refusal}
 use Rattle.bench.proofs.Refused.{rests, flip-refused, begin_asked}
-use Rattle.bench.proofs.judged.run_refusal.Goals as goal
+use Rattle.bench.proofs.refusing.run_refusal.Goals as goal
 
 pub returns-then-room-lt-MOST_CELLS : goal.returns-then-room-lt-MOST_CELLS
 unfolding run_refusal

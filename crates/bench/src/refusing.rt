@@ -1,7 +1,7 @@
 // The refusals of a run, in their order.
 ghost use Rattle.std.specs.Prelude.{◌≡◌, ltb, take};
 ghost use Rattle.lists.specs.Lists.{any};
-ghost use Rattle.refusals.specs.Refusals as numbers;
+ghost use Rattle.refusals.specs.Refusals as refused;
 ghost use Rattle.bench.specs.Runs.{refusal_of};
 
 use crate::MOST_CELLS;
@@ -31,7 +31,7 @@ pub fn run_refusal(
     flips: &[u8],
     room: usize,
 ) -> Result<(), Refusal>
-    ensures { numbers.refusal_of result ≡ refusal_of m.now boards.now count flips.now room }
+    ensures { refused.refusal_of result ≡ refusal_of m.now boards.now count flips.now room }
 {
     if room < MOST_CELLS {
         return Err(Refusal::TooFewLent);
