@@ -4,28 +4,16 @@ use crate::writes;
 use lines::came::{Came, Flaw};
 use lines::cells::blank_from;
 use lines::numbers::{Numbers, at_most};
+use reader::Fault;
 use readings::Reading;
+use refusals::Refusal;
 
 // ---- a record, and what it says
-
-#[derive(Clone, Copy)]
-struct Fault {
-    refusal: u8,
-    place: usize,
-}
 
 // What these cells say; the reader is lent the first `room` bytes.
 fn read_part(cells: &[u16], bytes: &mut [u8], room: usize) -> Result<Reading, Fault> {
     let many = at_most(room, bytes.len());
-    let answer = reader::read(cells, &mut bytes[..many]);
-    if answer.refusal == 0 {
-        Ok(answer.reading)
-    } else {
-        Err(Fault {
-            refusal: answer.refusal,
-            place: answer.place,
-        })
-    }
+    reader::read(cells, &mut bytes[..many])
 }
 
 // `says`, `breaks` and `refused`. The record is read into a blank buffer, which is then the desk's. Behind the offers it has to stay blank. What is
@@ -38,7 +26,7 @@ pub fn read(desk: &mut Desk) -> Came {
             flaw: flaw_of(desk, &reading),
         },
         Err(fault) => Came {
-            numbers: refused(fault.refusal.into(), fault.place as u64),
+            numbers: refused(fault.refusal.number().into(), fault.place as u64),
             flaw: touched_from(&desk.bytes, 0),
         },
     }
@@ -92,10 +80,11 @@ fn breaks_off(cells: &[u16]) -> bool {
 
 // Whether a record breaks at this place.
 fn breaks(cells: &[u16], place: usize, bytes: &mut [u8]) -> bool {
-    match read_part(cells, bytes, 1000) {
-        Err(fault) => fault.refusal == 14 && fault.place == place,
-        Ok(_) => false,
-    }
+    let at_place = Fault {
+        refusal: Refusal::NoLayout,
+        place,
+    };
+    read_part(cells, bytes, 1000) == Err(at_place)
 }
 
 // `off`. How many beginnings of the record, each one cell longer than the one before it, break off at their length.

@@ -59,34 +59,12 @@ pub fn write(desk: &mut Desk, given: &Numbers) -> Came {
 // The reading of a line: joining, command, header, new address, direct, last, offers.
 fn reading_of(given: &Numbers) -> Reading {
     Reading {
-        joining: joining_of(given.at(0)),
-        command: command_of(given.at(1)),
+        joining: Joining::try_from(byte(given.at(0))).unwrap_or(Joining::Answered),
+        command: Command::try_from(byte(given.at(1))).unwrap_or(Command::Allow),
         header: byte(given.at(2)),
         new: byte(given.at(3)),
         direct: given.at(4) != 0,
         last: given.at(5) != 0,
         offers: given.at(6) as usize,
-    }
-}
-
-// The joining of a number.
-fn joining_of(number: u64) -> Joining {
-    match number {
-        0 => Joining::None,
-        1 => Joining::Refused,
-        _ => Joining::Answered,
-    }
-}
-
-// The command of a number.
-fn command_of(number: u64) -> Command {
-    match number {
-        0 => Command::None,
-        1 => Command::Assign,
-        2 => Command::ResetAll,
-        3 => Command::SetFromStatic,
-        4 => Command::Move,
-        5 => Command::Silence,
-        _ => Command::Allow,
     }
 }
