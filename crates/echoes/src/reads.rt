@@ -27,23 +27,21 @@ pub fn read(desk: &mut Desk) -> Came {
         },
         Err(fault) => Came {
             numbers: refused(fault.refusal.number().into(), fault.place as u64),
-            flaw: touched_from(&desk.bytes, 0),
+            flaw: (!blank_from(&desk.bytes, 0, &BLANK_BYTE)).then_some(Flaw::Touched),
         },
     }
 }
 
 // What is wrong with a reading that is read to this desk.
 fn flaw_of(desk: &Desk, reading: &Reading) -> Option<Flaw> {
-    let flaw = touched_from(&desk.bytes, 10 * at_most(reading.offers, 100));
-    if flaw.is_none() && !writes::echoes(desk, reading) {
-        return Some(Flaw::NotEchoed);
+    let written = 10 * at_most(reading.offers, 100);
+    if !blank_from(&desk.bytes, written, &BLANK_BYTE) {
+        Some(Flaw::Touched)
+    } else if !writes::echoes(desk, reading) {
+        Some(Flaw::NotEchoed)
+    } else {
+        None
     }
-    flaw
-}
-
-// Whether a byte from a place on is not blank any more.
-fn touched_from(bytes: &[u8; 1000], first: usize) -> Option<Flaw> {
-    (!blank_from(bytes, first, &BLANK_BYTE)).then_some(Flaw::Touched)
 }
 
 // Joining, command, header, new address, whether the direct header answered, whether the last round header answered, offers.

@@ -5,6 +5,7 @@ use lines::cells::{BLANK_CELL, blank_from};
 use lines::list::List;
 use lines::numbers::{Numbers, at_most, byte};
 use readings::{Command, Joining, Reading};
+use refusals::Refusal;
 
 // The writer's answer to a reading with the first `span` bytes, lent the first `lent` cells.
 fn write_part(
@@ -13,15 +14,10 @@ fn write_part(
     span: usize,
     cells: &mut [u16],
     lent: usize,
-) -> Result<usize, u8> {
+) -> Result<usize, Refusal> {
     let many = at_most(span, bytes.len());
     let n = at_most(lent, cells.len());
-    let written = writer::write(*reading, &bytes[..many], &mut cells[..n]);
-    if written.refusal == 0 {
-        Ok(written.count)
-    } else {
-        Err(written.refusal)
-    }
+    writer::write(reading, &bytes[..many], &mut cells[..n])
 }
 
 // Whether the writer, handed a reading and the very bytes that the reader was lent, gives the record that was read, and leaves the cells behind it
@@ -36,23 +32,22 @@ pub fn echoes(desk: &Desk, reading: &Reading) -> bool {
 
 // `write`. Refusal, count and place. What was written is then the record, if it was not refused.
 pub fn write(desk: &mut Desk, given: &Numbers) -> Came {
+    let reading = reading_of(given);
     let mut cells = [BLANK_CELL; 1100];
-    let written = write_part(
-        &reading_of(given),
-        &desk.bytes,
-        desk.span,
-        &mut cells,
-        desk.lent,
-    );
-    let count = written.unwrap_or(0);
-    if written.is_ok() {
-        desk.record = List::first(cells, count);
+    match write_part(&reading, &desk.bytes, desk.span, &mut cells, desk.lent) {
+        Ok(count) => {
+            desk.record = List::first(cells, count);
+            written(0, count, &cells)
+        }
+        Err(refusal) => written(refusal.number(), 0, &cells),
     }
+}
+
+// What it came to with this refusal and so many cells: behind them the lent ones have to be blank.
+fn written(refusal: u8, count: usize, cells: &[u16]) -> Came {
     Came {
-        numbers: Numbers::one(written.err().unwrap_or(0).into())
-            .with(count as u64)
-            .with(0),
-        flaw: (!blank_from(&cells, count, &BLANK_CELL)).then_some(Flaw::Touched),
+        numbers: Numbers::one(refusal.into()).with(count as u64).with(0),
+        flaw: (!blank_from(cells, count, &BLANK_CELL)).then_some(Flaw::Touched),
     }
 }
 
