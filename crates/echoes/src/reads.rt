@@ -4,28 +4,16 @@ use crate::writes;
 use lines::came::{Came, Flaw};
 use lines::cells::blank_from;
 use lines::numbers::{Numbers, at_most};
+use reader::Fault;
 use readings::Reading;
+use refusals::Refusal;
 
 // ---- a record, and what it says
-
-#[derive(Clone, Copy)]
-struct Fault {
-    refusal: u8,
-    place: usize,
-}
 
 // What these cells say; the reader is lent the first `room` bytes.
 fn read_part(cells: &[u16], bytes: &mut [u8], room: usize) -> Result<Reading, Fault> {
     let many = at_most(room, bytes.len());
-    let answer = reader::read(cells, &mut bytes[..many]);
-    if answer.refusal == 0 {
-        Ok(answer.reading)
-    } else {
-        Err(Fault {
-            refusal: answer.refusal,
-            place: answer.place,
-        })
-    }
+    reader::read(cells, &mut bytes[..many])
 }
 
 // `says`, `breaks` and `refused`. The record is read into a blank buffer, which is then the desk's. Behind the offers it has to stay blank. What is
@@ -38,24 +26,22 @@ pub fn read(desk: &mut Desk) -> Came {
             flaw: flaw_of(desk, &reading),
         },
         Err(fault) => Came {
-            numbers: refused(fault.refusal.into(), fault.place as u64),
-            flaw: touched_from(&desk.bytes, 0),
+            numbers: refused(fault.refusal.number().into(), fault.place as u64),
+            flaw: (!blank_from(&desk.bytes, 0, &BLANK_BYTE)).then_some(Flaw::Touched),
         },
     }
 }
 
 // What is wrong with a reading that is read to this desk.
 fn flaw_of(desk: &Desk, reading: &Reading) -> Option<Flaw> {
-    let flaw = touched_from(&desk.bytes, 10 * at_most(reading.offers, 100));
-    if flaw.is_none() && !writes::echoes(desk, reading) {
-        return Some(Flaw::NotEchoed);
+    let written = 10 * at_most(reading.offers, 100);
+    if !blank_from(&desk.bytes, written, &BLANK_BYTE) {
+        Some(Flaw::Touched)
+    } else if !writes::echoes(desk, reading) {
+        Some(Flaw::NotEchoed)
+    } else {
+        None
     }
-    flaw
-}
-
-// Whether a byte from a place on is not blank any more.
-fn touched_from(bytes: &[u8; 1000], first: usize) -> Option<Flaw> {
-    (!blank_from(bytes, first, &BLANK_BYTE)).then_some(Flaw::Touched)
 }
 
 // Joining, command, header, new address, whether the direct header answered, whether the last round header answered, offers.
@@ -92,10 +78,11 @@ fn breaks_off(cells: &[u16]) -> bool {
 
 // Whether a record breaks at this place.
 fn breaks(cells: &[u16], place: usize, bytes: &mut [u8]) -> bool {
-    match read_part(cells, bytes, 1000) {
-        Err(fault) => fault.refusal == 14 && fault.place == place,
-        Ok(_) => false,
-    }
+    let at_place = Fault {
+        refusal: Refusal::NoLayout,
+        place,
+    };
+    read_part(cells, bytes, 1000) == Err(at_place)
 }
 
 // `off`. How many beginnings of the record, each one cell longer than the one before it, break off at their length.

@@ -5,6 +5,7 @@ use lines::cells::{BLANK_CELL, blank_from};
 use lines::list::List;
 use lines::numbers::{Numbers, at_most, byte};
 use readings::{Command, Joining, Reading};
+use refusals::Refusal;
 
 // The writer's answer to a reading with the first `span` bytes, lent the first `lent` cells.
 fn write_part(
@@ -13,15 +14,10 @@ fn write_part(
     span: usize,
     cells: &mut [u16],
     lent: usize,
-) -> Result<usize, u8> {
+) -> Result<usize, Refusal> {
     let many = at_most(span, bytes.len());
     let n = at_most(lent, cells.len());
-    let written = writer::write(*reading, &bytes[..many], &mut cells[..n]);
-    if written.refusal == 0 {
-        Ok(written.count)
-    } else {
-        Err(written.refusal)
-    }
+    writer::write(reading, &bytes[..many], &mut cells[..n])
 }
 
 // Whether the writer, handed a reading and the very bytes that the reader was lent, gives the record that was read, and leaves the cells behind it
@@ -36,57 +32,34 @@ pub fn echoes(desk: &Desk, reading: &Reading) -> bool {
 
 // `write`. Refusal, count and place. What was written is then the record, if it was not refused.
 pub fn write(desk: &mut Desk, given: &Numbers) -> Came {
+    let reading = reading_of(given);
     let mut cells = [BLANK_CELL; 1100];
-    let written = write_part(
-        &reading_of(given),
-        &desk.bytes,
-        desk.span,
-        &mut cells,
-        desk.lent,
-    );
-    let count = written.unwrap_or(0);
-    if written.is_ok() {
-        desk.record = List::first(cells, count);
+    match write_part(&reading, &desk.bytes, desk.span, &mut cells, desk.lent) {
+        Ok(count) => {
+            desk.record = List::first(cells, count);
+            written(0, count, &cells)
+        }
+        Err(refusal) => written(refusal.number(), 0, &cells),
     }
+}
+
+// What it came to with this refusal and so many cells: behind them the lent ones have to be blank.
+fn written(refusal: u8, count: usize, cells: &[u16]) -> Came {
     Came {
-        numbers: Numbers::one(written.err().unwrap_or(0).into())
-            .with(count as u64)
-            .with(0),
-        flaw: (!blank_from(&cells, count, &BLANK_CELL)).then_some(Flaw::Touched),
+        numbers: Numbers::one(refusal.into()).with(count as u64).with(0),
+        flaw: (!blank_from(cells, count, &BLANK_CELL)).then_some(Flaw::Touched),
     }
 }
 
 // The reading of a line: joining, command, header, new address, direct, last, offers.
 fn reading_of(given: &Numbers) -> Reading {
     Reading {
-        joining: joining_of(given.at(0)),
-        command: command_of(given.at(1)),
+        joining: Joining::try_from(byte(given.at(0))).unwrap_or(Joining::Answered),
+        command: Command::try_from(byte(given.at(1))).unwrap_or(Command::Allow),
         header: byte(given.at(2)),
         new: byte(given.at(3)),
         direct: given.at(4) != 0,
         last: given.at(5) != 0,
         offers: given.at(6) as usize,
-    }
-}
-
-// The joining of a number.
-fn joining_of(number: u64) -> Joining {
-    match number {
-        0 => Joining::None,
-        1 => Joining::Refused,
-        _ => Joining::Answered,
-    }
-}
-
-// The command of a number.
-fn command_of(number: u64) -> Command {
-    match number {
-        0 => Command::None,
-        1 => Command::Assign,
-        2 => Command::ResetAll,
-        3 => Command::SetFromStatic,
-        4 => Command::Move,
-        5 => Command::Silence,
-        _ => Command::Allow,
     }
 }

@@ -9,16 +9,16 @@ use rows::Row;
 pub fn change(m: &mut Machine, letter: u8, given: &Numbers) {
     let number = given.at(0);
     match letter {
-        b'M' => m.moment = moment_of(number),
-        b'F' => m.facts.flags = byte(number),
-        b'T' => m.facts.last = ticket(number),
+        b'M' => m.moment = Moment::try_from(byte(number)).unwrap_or(Moment::Direct),
+        b'F' => m.table.facts.flags = byte(number),
+        b'T' => m.table.facts.last = ticket(number),
         b'L' => {
-            if let Some(legacy) = m.facts.legacy.get_mut(place(number)) {
+            if let Some(legacy) = m.table.facts.legacy.get_mut(place(number)) {
                 *legacy = byte(given.at(1));
             }
         }
         b'R' => {
-            if let Some(row) = m.rows.get_mut(place(number)) {
+            if let Some(row) = m.table.rows.get_mut(place(number)) {
                 *row = row_of(given);
             }
         }
@@ -28,18 +28,6 @@ pub fn change(m: &mut Machine, letter: u8, given: &Numbers) {
         b'I' => m.identity = number,
         b'O' => m.offered = byte(number),
         _ => m.refusals = byte(number),
-    }
-}
-
-// The moment of a number.
-pub fn moment_of(number: u64) -> Moment {
-    match number {
-        0 => Moment::Idle,
-        1 => Moment::Opened,
-        2 => Moment::Round,
-        3 => Moment::Listening,
-        4 => Moment::Offered,
-        _ => Moment::Direct,
     }
 }
 

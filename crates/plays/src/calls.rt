@@ -5,7 +5,7 @@ use lines::cells::{BLANK_CELL, blank_from};
 use lines::numbers::{Numbers, at_most, byte, place, ticket};
 use lines::shapes::Shape;
 use lines::stage::Stage;
-use looks::{by_hand, same};
+use looks::by_hand;
 use machine::{Machine, Stepped};
 
 // The machine, and how many cells its calls are lent.
@@ -99,8 +99,10 @@ impl Bus {
 
     // `query TICKET`.
     fn ask(&mut self, ticket: u32) -> Came {
-        let asked = self.machine.ask(ticket);
-        Came::seen(Numbers::one(asked.refusal.into()).with(asked.address.into()))
+        Came::seen(match self.machine.ask(ticket) {
+            Ok(address) => Numbers::one(0).with(address.into()),
+            Err(refusal) => Numbers::one(refusal.number().into()).with(0),
+        })
     }
 
     // `cards FIRST LAST`. It comes to the last refusal of any call, 0 if there was none.
@@ -121,7 +123,7 @@ impl Bus {
 fn flaw_of(before: &Machine, done: &Stepped, cells: &[u16]) -> Option<Flaw> {
     if !blank_from(cells, done.count, &BLANK_CELL) {
         Some(Flaw::WroteBehind)
-    } else if done.refusal != 0 && !same::machine(before, &done.machine) {
+    } else if done.refusal != 0 && done.machine != *before {
         Some(Flaw::MachineChanged)
     } else {
         None

@@ -6,7 +6,6 @@ use lines::came::{Came, Flaw};
 use lines::cells::{BLANK_CELL, blank_from};
 use lines::numbers::{Numbers, at_most, byte, ticket};
 use lines::stage::Stage;
-use looks::same;
 
 // `play`. Refusal, count, ending, rounds, clocks. Machine, boards and cells are then the run's.
 pub fn play(setup: &mut Setup) -> Came {
@@ -52,7 +51,7 @@ fn flaw_of(setup: &Setup, owned: &Owned, cells: &[u16]) -> Option<Flaw> {
 fn kept(setup: &Setup, owned: &Owned) -> bool {
     let after = &owned.report.machine;
     if owned.report.refusal != 0 {
-        return same::machine(&setup.machine, after) && same_boards(&setup.boards, &owned.boards, 0);
+        return setup.machine == *after && same_boards(&setup.boards, &owned.boards, 0);
     }
     looks::moment(after) == Numbers::none().with_all(&[0u64; 7])
         && same_boards(&setup.boards, &owned.boards, setup.count)
