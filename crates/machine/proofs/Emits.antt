@@ -122,5 +122,6 @@ module _ (m : Machine) (more : ℕ) (s : Step) (entry : List ℕ) where
     call_passed e short h =
         let n = length s.cells in
         let behind : drop n front ++ drop 8 entry ≡ drop n entry =
-        sym (drop-append-le n front (drop 8 entry) (omega (arith, lent.enough, ap length lent.same, length-take 8 entry))) ∙ rw (lent.same, take-append-drop 8 entry) in
+        sym (drop-append-le n front (drop 8 entry) (omega (arith, lent.enough, ap length lent.same, length-take 8 entry)))
+        ∙ rw (lent.same, take-append-drop 8 entry) in
         rw (← room_same, ← e) (h.0, rw (h.1, append_assoc s.cells (drop n front) (drop 8 entry), behind))

@@ -113,7 +113,8 @@ rest_passed m {r} {x} {more} e z p = go (machine_right m) (is_idle m.moment) e
     go true true e = p
 
 -- a call that writes nothing: refused, or not
-pub retire_refused : (m : Machine) (s : Step) (r : Refusal) {k : ℕ} {d : Stepped} → number r ≡ k → d ≡ stepped (refuse m (number r)) → d ≡ stepped (unless k m s)
+pub retire_refused : (m : Machine) (s : Step) (r : Refusal) {k : ℕ} {d : Stepped} → number r ≡ k → d ≡ stepped (refuse m (number r))
+    → d ≡ stepped (unless k m s)
 retire_refused m s r e p = rw (← e, ne_eqb (number r) 0 (number_not_zero r)) p
 
 pub retire_passed : (m : Machine) (s : Step) {k : ℕ} {d : Stepped} → 0 ≡ k → d ≡ stepped s → d ≡ stepped (unless k m s)
@@ -123,7 +124,8 @@ pub ask_refused : (m : Machine) (ticket : ℕ) (r : Refusal) → number r ≡ as
 unfolding asked
 ask_refused m ticket r e = rw (← e, ne_eqb (number r) 0 (number_not_zero r))
 
-pub ask_told : (m : Machine) (ticket : ℕ) {a : ℕ} → 0 ≡ ask_refusal m ticket → a ≡ address_of m.table.rows ticket → record { address = a; refusal = 0 } ≡ asked m ticket
+pub ask_told : (m : Machine) (ticket : ℕ) {a : ℕ} → 0 ≡ ask_refusal m ticket → a ≡ address_of m.table.rows ticket
+    → record { address = a; refusal = 0 } ≡ asked m ticket
 unfolding asked
 ask_told m ticket e p = rw (← e, p)
 
@@ -180,8 +182,8 @@ eight_heard m bytes room e = let t = simp not-refused at (sym e) in eqb-true byt
 
 -- ---- an answer, or none, at this moment
 
-pub answer_at_lem : (m : Machine) (h : Bool) (w : Moment) (entry : List ℕ) {exit : List ℕ} {d : Stepped} → m.moment ≡ w → ComesTo (answer_at w m h) entry d exit
-    → ComesTo (answer_at m.moment m h) entry d exit
+pub answer_at_lem : (m : Machine) (h : Bool) (w : Moment) (entry : List ℕ) {exit : List ℕ} {d : Stepped} → m.moment ≡ w
+    → ComesTo (answer_at w m h) entry d exit → ComesTo (answer_at m.moment m h) entry d exit
 answer_at_lem m h w entry {exit} {d} at e = subst (λ (v : Moment). ComesTo (answer_at v m h) entry d exit) (sym at) e
 
 -- at idle and at listening, where it is not of the moment

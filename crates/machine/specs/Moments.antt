@@ -14,30 +14,76 @@ use Rattle.machine.specs.declared.moments.UnknownMoment.{UnknownMoment}
 
 -- idle remembers nothing
 abbrev pub idle : Facts → List Row → Machine
-idle f rows = record { table = record { facts = f; rows = rows }; moment = Idle; choice = 0; asked = 0; wanted = 0; identity = 0; offered = 0; refusals = 0 }
+idle f rows =
+    record { table = record { facts = f; rows = rows }; moment = Idle; choice = 0; asked = 0; wanted = 0; identity = 0; offered = 0; refusals = 0 }
 
 -- opened and direct: the choice, the address asked (the static one for a set, the present one for a move) and the new address wanted
 abbrev pub opened : Facts → List Row → ℕ → ℕ → ℕ → Machine
 opened f rows choice asked wanted =
-    record { table = record { facts = f; rows = rows }; moment = Opened; choice = choice; asked = asked; wanted = wanted; identity = 0; offered = 0; refusals = 0 }
+    record {
+      table = record { facts = f; rows = rows };
+      moment = Opened;
+      choice = choice;
+      asked = asked;
+      wanted = wanted;
+      identity = 0;
+      offered = 0;
+      refusals = 0;
+    }
 
 abbrev pub direct : Facts → List Row → ℕ → ℕ → ℕ → Machine
 direct f rows choice asked wanted =
-    record { table = record { facts = f; rows = rows }; moment = Direct; choice = choice; asked = asked; wanted = wanted; identity = 0; offered = 0; refusals = 0 }
+    record {
+      table = record { facts = f; rows = rows };
+      moment = Direct;
+      choice = choice;
+      asked = asked;
+      wanted = wanted;
+      identity = 0;
+      offered = 0;
+      refusals = 0;
+    }
 
 -- round and listening: the refusals in succession
 abbrev pub round : Facts → List Row → ℕ → Machine
 round f rows refusals =
-    record { table = record { facts = f; rows = rows }; moment = Round; choice = 0; asked = 0; wanted = 0; identity = 0; offered = 0; refusals = refusals }
+    record {
+      table = record { facts = f; rows = rows };
+      moment = Round;
+      choice = 0;
+      asked = 0;
+      wanted = 0;
+      identity = 0;
+      offered = 0;
+      refusals = refusals;
+    }
 
 abbrev pub listening : Facts → List Row → ℕ → Machine
 listening f rows refusals =
-    record { table = record { facts = f; rows = rows }; moment = Listening; choice = 0; asked = 0; wanted = 0; identity = 0; offered = 0; refusals = refusals }
+    record {
+      table = record { facts = f; rows = rows };
+      moment = Listening;
+      choice = 0;
+      asked = 0;
+      wanted = 0;
+      identity = 0;
+      offered = 0;
+      refusals = refusals;
+    }
 
 -- offered: the identity, the address that it is offered, and the refusals in succession
 abbrev pub offering : Facts → List Row → ℕ → ℕ → ℕ → Machine
 offering f rows identity address refusals =
-    record { table = record { facts = f; rows = rows }; moment = Offered; choice = 0; asked = 0; wanted = 0; identity = identity; offered = address; refusals = refusals }
+    record {
+      table = record { facts = f; rows = rows };
+      moment = Offered;
+      choice = 0;
+      asked = 0;
+      wanted = 0;
+      identity = identity;
+      offered = address;
+      refusals = refusals;
+    }
 
 -- ---- what a machine at a moment must be like
 

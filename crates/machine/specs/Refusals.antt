@@ -28,7 +28,8 @@ rest_refusal m more =
 -- ---- each call
 
 unfoldable pub begin_refusal : Machine → ℕ → ℕ → ℕ → ℕ → ℕ → ℕ
-begin_refusal m choice static new ticket room = step_refusal room m (idle_refusal m (choice_refusal m.table.facts m.table.rows choice static new ticket))
+begin_refusal m choice static new ticket room =
+    step_refusal room m (idle_refusal m (choice_refusal m.table.facts m.table.rows choice static new ticket))
 
 unfoldable pub join_refusal : Machine → ℕ → ℕ → ℕ
 join_refusal m choice room = step_refusal room m (idle_refusal m (joining_refusal m.table.facts m.table.rows choice))

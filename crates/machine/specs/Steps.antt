@@ -121,7 +121,8 @@ identity_of bytes = digits 0 bytes
 -- eight identity bytes: their cells; offered, with the address for the identity
 unfoldable pub listened : Machine → List ℕ → Step
 listened m bytes =
-    did (offering m.table.facts m.table.rows (identity_of bytes) (address_for m.table.facts m.table.rows (identity_of bytes)) m.refusals) (map identity_cell bytes)
+    did (offering m.table.facts m.table.rows (identity_of bytes) (address_for m.table.facts m.table.rows (identity_of bytes)) m.refusals)
+    (map identity_cell bytes)
 
 -- ---- offered
 

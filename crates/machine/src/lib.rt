@@ -35,8 +35,8 @@ pub enum Moment {
     Direct, // choice, asked, wanted
 }
 
-// The table, the moment, and what it remembers: the choice that was begun, the address that it asks (static for a set, present for a move) and the new
-// address wanted; the identity heard and the address that it is offered; the refusals in succession.
+// The table, the moment, and what it remembers: the choice that was begun, the address that it asks (static for a set, present for a move) and the
+// new address wanted; the identity heard and the address that it is offered; the refusals in succession.
 #[derive(Clone, Copy, Debug, PartialEq, Eq)]
 pub struct Machine {
     pub table: Table,

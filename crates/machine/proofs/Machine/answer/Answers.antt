@@ -19,31 +19,36 @@ direct_answer-requires c = let e = c.in-Ok.ensures in search (direct_ticket, ste
 pub returns-in-Opened : goal.returns-in-Opened
 unfolding answered
 returns-in-Opened c =
-    let d = call_passed _ _ _ _ c.in-Some.ensures.cases c.in-Ok.ensures (answer_short _ _ _) (answer_at_lem _ _ Opened _ c.in-Opened.is c.opened_answer.ensures) in
+    let here = answer_at_lem _ _ Opened _ c.in-Opened.is c.opened_answer.ensures in
+    let d = call_passed _ _ _ _ c.in-Some.ensures.cases c.in-Ok.ensures (answer_short _ _ _) here in
     record { value = d.0; cells_after = d.1 }
 
 pub returns-in-Round : goal.returns-in-Round
 unfolding answered
 returns-in-Round c =
-    let d = call_passed _ _ _ _ c.in-Some.ensures.cases c.in-Ok.ensures (answer_short _ _ _) (answer_at_lem _ _ Round _ c.in-Round.is c.round_answer.ensures) in
+    let here = answer_at_lem _ _ Round _ c.in-Round.is c.round_answer.ensures in
+    let d = call_passed _ _ _ _ c.in-Some.ensures.cases c.in-Ok.ensures (answer_short _ _ _) here in
     record { value = d.0; cells_after = d.1 }
 
 pub returns-in-Offered : goal.returns-in-Offered
 unfolding answered
 returns-in-Offered c =
-    let d = call_passed _ _ _ _ c.in-Some.ensures.cases c.in-Ok.ensures (answer_short _ _ _) (answer_at_lem _ _ Offered _ c.in-Offered.is c.offered_answer.ensures) in
+    let here = answer_at_lem _ _ Offered _ c.in-Offered.is c.offered_answer.ensures in
+    let d = call_passed _ _ _ _ c.in-Some.ensures.cases c.in-Ok.ensures (answer_short _ _ _) here in
     record { value = d.0; cells_after = d.1 }
 
 pub returns-in-Direct : goal.returns-in-Direct
 unfolding answered
 returns-in-Direct c =
-    let d = call_passed _ _ _ _ c.in-Some.ensures.cases c.in-Ok.ensures (answer_short _ _ _) (answer_at_lem _ _ Direct _ c.in-Direct.is c.direct_answer.ensures) in
+    let here = answer_at_lem _ _ Direct _ c.in-Direct.is c.direct_answer.ensures in
+    let d = call_passed _ _ _ _ c.in-Some.ensures.cases c.in-Ok.ensures (answer_short _ _ _) here in
     record { value = d.0; cells_after = d.1 }
 
 pub returns-in-Idle : goal.returns-in-Idle
 unfolding answered
 returns-in-Idle c =
-    let d = call_passed _ _ _ _ c.in-Some.ensures.cases c.in-Ok.ensures (answer_short _ _ _) (answer_refused _ _ _ c.in-Idle.is c.refused-in-Idle.ensures) in
+    let here = answer_refused _ _ _ c.in-Idle.is c.refused-in-Idle.ensures in
+    let d = call_passed _ _ _ _ c.in-Some.ensures.cases c.in-Ok.ensures (answer_short _ _ _) here in
     record { value = d.0; cells_after = d.1 }
 
 pub returns-in-Err : goal.returns-in-Err

@@ -16,7 +16,8 @@ eight-requires c = eight_heard _ _ _ c.in-Ok.ensures
 pub returns-in-Ok : goal.returns-in-Ok
 unfolding identified identity_refusal
 returns-in-Ok c =
-    let d = call_passed _ _ _ _ c.in-Some.ensures.cases c.in-Ok.ensures (listened_short _ _ (eight_heard _ _ _ c.in-Ok.ensures)) (rw c.eight.ensures at c.listened.ensures) in
+    let short = listened_short _ c.args.bytes.now (eight_heard _ _ _ c.in-Ok.ensures) in
+    let d = call_passed _ _ _ _ c.in-Some.ensures.cases c.in-Ok.ensures short (rw c.eight.ensures at c.listened.ensures) in
     record { value = d.0; cells_after = d.1 }
 
 pub returns-in-Err : goal.returns-in-Err

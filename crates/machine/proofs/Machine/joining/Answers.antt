@@ -9,4 +9,6 @@ returns-then-choice-eq-JOIN_REFUSED c = rw (eq-eqb _ _ c.if-choice-eq-JOIN_REFUS
 
 pub returns-else-choice-eq-JOIN_REFUSED : goal.returns-else-choice-eq-JOIN_REFUSED
 unfolding joining
-returns-else-choice-eq-JOIN_REFUSED c = rw (ne_eqb _ _ c.if-choice-eq-JOIN_REFUSED.false) (rw (c.opened-next.ensures, c.joined_for.ensures) at c.did-else-choice-eq-JOIN_REFUSED.ensures)
+returns-else-choice-eq-JOIN_REFUSED c =
+    rw (ne_eqb _ _ c.if-choice-eq-JOIN_REFUSED.false)
+    (rw (c.opened-next.ensures, c.joined_for.ensures) at c.did-else-choice-eq-JOIN_REFUSED.ensures)
