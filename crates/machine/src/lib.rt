@@ -36,7 +36,8 @@ pub enum Moment {
 }
 
 // The table, the moment, and what it remembers: the choice that was begun, the address that it asks (static for a set, present for a move) and the
-// new address wanted; the identity heard and the address that it is offered; the refusals in succession.
+// new address wanted; the identity heard and the address that it is offered; the refusals in succession. Kept: the choice is a number, since a machine
+// can be handed in with any in its place, and is then refused 28.
 #[derive(Clone, Copy, Debug, PartialEq, Eq)]
 pub struct Machine {
     pub table: Table,

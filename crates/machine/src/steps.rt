@@ -120,7 +120,8 @@ pub fn without(rows: &[Row; 32], ticket: u32) -> [Row; 32]
     }
 }
 
-// The facts after a new ticket.
+// The facts after a new ticket. Kept: that one is left is asked here and of the three calls behind it, since `answer` knows it of a machine that keeps
+// the rules at its moment; a type of tables with a ticket left would stand beside `Table` for these alone, no plainer.
 fn ticketed(f: Facts) -> Facts
     requires { f.last < 4294967295 }
     ensures { result ≡ ticketed f }
