@@ -13,7 +13,7 @@ use lib.Pow.{pow_mono}
 use mir.Val.{bool_byte}
 use Rattle.std.specs.Array.{IsFromFnResult, IsFromFnResultFrom, IsMapOf}
 use Rattle.std.specs.List.{list_any, zip}
-use Rattle.std.proofs.lemmas.List.{same_lists, ext_get_or}
+use Rattle.std.proofs.lemmas.List.{same_lists, ext_get_or, set-get_or}
 use Rattle.lists.proofs.Zips.{zip_at, zip_long, zipping, zip_turn, zip_done}
 use Rattle.boards.specs.declared.Board.{Board}
 use Rattle.boards.specs.Wire.{waits, waiting, waiting_first, anyone, board_of, sent, sends_zero, wire_bit, keeps_in, stay_in, hear}
@@ -116,12 +116,6 @@ pub record Settled (k : ℕ) (ids : List ℕ) (fs kept : List Bool) (i : ℕ) : 
 pub settled_start : {k : ℕ} {ids : List ℕ} {fs : List Bool} → length fs ≡ length ids → Settled k ids fs fs 0
 settled_start e = record { long = e; same = refl }
 
--- a flag that is put where it stands
-set_here : (fs : List Bool) (i : ℕ) (f : Bool) → set fs i (get_or fs i f) ≡ fs
-set_here [] i f = refl
-set_here (g ∷ fs) zero f = refl
-set_here (g ∷ fs) (suc i) f = rw (set_here fs i f)
-
 module _ {k : ℕ} {ids : List ℕ} {fs kept : List Bool} {i : ℕ} (v : Settled k ids fs kept i) where
   -- the next is settled
   settled_turn : i < length ids → (d : ℕ) (now : Bool) → now ≡ keeps_in k 0 (board_of (get_or ids i d)) (get_or kept i false)
@@ -138,7 +132,7 @@ module _ {k : ℕ} {ids : List ℕ} {fs kept : List Bool} {i : ℕ} (v : Settled
   pub settled_stays : i < length ids → (d : ℕ) → (sent k (board_of (get_or ids i d)) ≡ 1 → ⊥) → Settled k ids fs kept (i + 1)
   settled_stays h d e =
       let none : sent k (board_of (get_or ids i d)) ≡ 0 = omega (arith, e) in
-      rw (set_here kept i false) at (settled_turn h d (get_or kept i false) (rw none (sym (and-true (get_or kept i false)))))
+      rw (set-get_or kept i false) at (settled_turn h d (get_or kept i false) (rw none (sym (and-true (get_or kept i false)))))
 
   -- all are
   pub settled_ended : length ids ≤ i → kept ≡ stay_in k 0 (map board_of ids) fs
