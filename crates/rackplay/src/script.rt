@@ -13,11 +13,12 @@ pub const MOST_BYTES: usize = 262144;
 pub fn play(out: &mut impl Write, script: &[u8]) -> io::Result<()> {
     let mut machine = calls::first_machine();
     let mut given = Given::new(script);
+    let mut line = Line::new();
     while 0 < given.len() {
         let at = script.len() - given.len();
         match given.call() {
             Some(call) if script.len() - given.len() <= MOST_BYTES => {
-                let mut line = Line::new();
+                line.clear();
                 machine = calls::play(machine, call, &mut line)?;
                 writeln!(line)?;
                 out.write_all(line.as_bytes())?;
