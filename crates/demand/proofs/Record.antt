@@ -16,7 +16,8 @@ use Rattle.machine.specs.declared.Moment.TheVariants.{Opened, Round, Offered, Di
 use Rattle.machine.specs.Moments.{idle}
 use Rattle.machine.specs.Steps.{Step, onward_machine, onward_cell}
 use Rattle.life.specs.Life.{Call, answer, identity, step_of, after_all}
-use Rattle.told.specs.Told.{cells_over, moment_number, answer_of, heard_at, Offer, offer_of, offers_made}
+use Rattle.machine.specs.Moments.{moment_number}
+use Rattle.told.specs.Told.{cells_over, answer_of, heard_at, Offer, offer_of, offers_made}
 use Rattle.boards.specs.Wire.{waits}
 use Rattle.bench.specs.Play as plays
 use Rattle.bench.specs.Play.{Play, flip_now, offer_ending}

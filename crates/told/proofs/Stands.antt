@@ -33,7 +33,8 @@ use Rattle.machine.specs.Steps.{Step, refuse, beginning, joining, identity_of, l
 use Rattle.machine.proofs.Laws.{step_right}
 use Rattle.life.specs.Life.{Call, begin, answer, identity, give_up, join, retire, ask, step_of}
 use Rattle.life.proofs.Given.{stepping, refusing, steps_unless}
-use Rattle.told.specs.Told.{goes_on, moment_number, answer_of, Offer, offer_of, ten_each, command_chosen}
+use Rattle.machine.specs.Moments.{moment_number}
+use Rattle.told.specs.Told.{goes_on, answer_of, Offer, offer_of, ten_each, command_chosen}
 
 -- ---- a call is refused, or taken
 

@@ -11,6 +11,7 @@ use Rattle.readings.specs.declared.Reading.{Reading}
 use Rattle.machine.specs.declared.Machine.{Machine}
 use Rattle.machine.specs.declared.Moment.{Moment}
 use Rattle.machine.specs.declared.Moment.TheVariants.{Idle, Opened, Round, Listening, Offered, Direct}
+use Rattle.machine.specs.Moments.{moment_number}
 use Rattle.life.specs.Life.{Call, begin, answer, identity, give_up, join, retire, ask, step_of, after}
 
 -- ---- calls and cells
@@ -36,15 +37,6 @@ cells_over [] m = []
 cells_over (c ∷ cs) m = (step_of c m).cells ++ cells_over cs (after c m)
 
 -- ---- answers
-
--- moments, told apart by their numbers
-abbrev pub moment_number : Moment → ℕ
-moment_number Idle = 0
-moment_number Opened = 1
-moment_number Round = 2
-moment_number Listening = 3
-moment_number Offered = 4
-moment_number Direct = 5
 
 -- what a call says was heard, if it is an answer: something, or nobody
 abbrev pub answer_of : Call → Option Bool
