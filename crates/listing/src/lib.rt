@@ -47,7 +47,7 @@ fn put_place(row: &Row, text: &mut Text)
     requires { Fits text.old (cond (in_use row.now) (row_line row.now) []) }
     ensures { Puts text.old text.new (cond (in_use row.now) (row_line row.now) []) }
 {
-    if row.address != 0 {
+    if row.in_use() {
         put_row(row, text);
     }
 }
@@ -94,7 +94,7 @@ pub fn write(rows: &[Row; 32], ending: u8, rounds: usize, clocks: usize, out: &m
     text.at
 }
 
-// The line `refused N`, which stands in the place of a listing; lent as a listing is.
+// The line `refused N`, which stands in the place of a listing; lent as a listing is. (N is a number and no `Refusal`: the line is promised for any of them.)
 #[tactic(auto, using(crate::proofs::Digits::decimal_short))]
 pub fn write_refusal(refusal: u8, out: &mut [u8]) -> usize
     ensures value { result ≡ length (lent (length out.old) (refusal_line refusal)) }

@@ -1,7 +1,7 @@
 -- What C is handed: one number for a refusal and a value.
 use Rattle.std.specs.Prelude.{ℕ, ◌+◌, ◌*◌, cond}
-use Rattle.slots.specs.declared.SlotAnswer.{SlotAnswer}
-use Rattle.sheet.specs.declared.SheetRan.{SheetRan}
+use Rattle.slots.specs.Slots.{SlotAnswer}
+use Rattle.sheet.specs.Runs.{SheetRan}
 
 -- the refusal times 65,536 plus the value
 abbrev pub packed : ℕ → ℕ → ℕ

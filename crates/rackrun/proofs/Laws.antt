@@ -14,12 +14,10 @@ use Rattle.std.specs.Io.KnownBytes.{Appends}
 use Rattle.std.specs.declared.option.Option.{Option}
 use Rattle.lists.specs.Buffers.{lay}
 use Rattle.lists.proofs.Bools.{cond_by}
-use Rattle.lists.proofs.Buffers.{lay-length}
 use Rattle.listing.specs.Listing.{refusal_line, lent}
 use Rattle.listing.proofs.Lines.{refusal_short}
-use Rattle.sheet.specs.declared.SheetRan.{SheetRan}
 use Rattle.sheet.specs.Sheet.{sheet_right}
-use Rattle.sheet.specs.Runs.{sheet_refusal, sheet_text, sheet_ran}
+use Rattle.sheet.specs.Runs.{SheetRan, sheet_refusal, sheet_text, sheet_ran}
 use Rattle.sheet.proofs.Theorems.{at_most}
 use Rattle.rackrun.specs.Answers.{answer}
 
@@ -86,15 +84,6 @@ module _ (sheet out : List ℕ) (room : length out ≡ 1100) {ran : SheetRan} {s
         k ≡ length line → after ≡ lay line stand → Prints sheet out k after)
     unfolding answer
     prints_refusal l w = rw (ne_eqb (sheet_refusal sheet 1100) 0 not_taken, ← refusal_same) (rw (stays, room) at l, rw (stays, room) at w)
-
-module _ (sheet out : List ℕ) (room : length out ≡ 1100) {n : ℕ} {stand : List ℕ} (prints : Prints sheet out n stand) where
-  -- it stands within the bytes that were lent
-  pub prints_within : n ≤ length stand
-  prints_within = rw (prints.0, prints.1, lay-length (answer sheet) out (omega (arith, answer_short sheet))) (omega (arith, answer_short sheet))
-
-  -- so a part of them holds it
-  pub prints_long : n ≡ length (take n stand)
-  prints_long = omega (arith, prints_within, length-take n stand)
 
 -- the bytes that stand where they were left are what is printed
 pub stands : (sheet out : List ℕ) {n : ℕ} {stand : List ℕ} → Prints sheet out n stand → take n stand ≡ answer sheet

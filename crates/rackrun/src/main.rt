@@ -18,11 +18,10 @@ fn answered(sheet: &[u8], out: &mut [u8]) -> usize
     ensures value { result ≡ length (answer sheet.now) }
     ensures out_after { out.new ≡ lay (answer sheet.now) out.old }
 {
-    let ran = sheet::run(sheet, out);
-    if ran.refusal != 0 {
-        return listing::write_refusal(ran.refusal, out);
+    match sheet::run(sheet, out) {
+        Ok(length) => length,
+        Err(refusal) => listing::write_refusal(refusal.number(), out),
     }
-    ran.length
 }
 
 // Reads a sheet, and writes what is printed for it and nothing else. Of the input its first 513 bytes are read, and no more.

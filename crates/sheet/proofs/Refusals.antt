@@ -47,7 +47,7 @@ boards_low sheet = bodies_low (bodies_of 2 sheet (entries sheet))
 
 -- with a machine that rests it asks: over 32 boards, a flip over 8, and what Begin asks
 bench_left : (m : Machine) (bs : List Board) (flips : List ℕ) {more : ℕ} → 0 ≡ rest_refusal m 0 → any (λ (b : Board). ltb 127 b.address) bs ≡ false
-    → assign_refusal m.facts m.rows ≡ more
+    → assign_refusal m.table.facts m.table.rows ≡ more
     → lent_refusal m bs flips 1024 ≡ cond (ltb 32 (length bs)) 16 (cond (any (ltb 8) flips) 17 more)
 unfolding run_refusal
 bench_left m bs flips rests low asks = sym (rest_passed m rests refl (rw (low, asks)))
@@ -130,15 +130,15 @@ module _ (sheet out : List ℕ) where
         module _ (played : 0 ≡ lent_refusal m (boards_in sheet) (flips_in sheet) 1024)
             {p : Report} (told : p ≡ reported (lent_run m (boards_in sheet) (flips_in sheet) 1024)) where
           -- what it plays is listed
-          same_listing : lent (length out) (listing p.machine.rows p.ending p.rounds p.clocks) ≡ listing_of (run_of sheet)
+          same_listing : lent (length out) (listing p.machine.table.rows p.ending p.rounds p.clocks) ≡ listing_of (run_of sheet)
           unfolding run_of
           same_listing =
               let same = told ∙ ap reported (lent_played m (boards_in sheet) (flips_in sheet) 1024 (sym played)) in
-              rw (le-ltb (length out) 1100 enough) (ap (λ (q : Report). listing q.machine.rows q.ending q.rounds q.clocks) (rw is at same))
+              rw (le-ltb (length out) 1100 enough) (ap (λ (q : Report). listing q.machine.table.rows q.ending q.rounds q.clocks) (rw is at same))
 
           -- its listing stands at the front of the lent bytes
           pub run_listed : {n : ℕ} {stand : List ℕ}
-              → (let text = lent (length out) (listing p.machine.rows p.ending p.rounds p.clocks) in
+              → (let text = lent (length out) (listing p.machine.table.rows p.ending p.rounds p.clocks) in
               n ≡ length text → stand ≡ lay text out → Comes sheet out (Ok n) stand)
           unfolding sheet_text sheet_ran
           run_listed l w =

@@ -51,7 +51,7 @@ order_address a b h = go (in_use a) (in_use b) (ltb a.address b.address) (distin
 record Allowed (sheet : List ℕ) (room : ℕ) : Type 0 where
   enough : 1100 ≤ room
   right : sheet_right sheet ≡ true
-  begins : assign_refusal (machine_for sheet).facts (machine_for sheet).rows ≡ 0
+  begins : assign_refusal (machine_for sheet).table.facts (machine_for sheet).table.rows ≡ 0
 
 module _ (sheet : List ℕ) (room : ℕ) (taken : sheet_refusal sheet room ≡ 0) where
   allowed : Allowed sheet room
@@ -66,7 +66,7 @@ module _ (sheet : List ℕ) (room : ℕ) (taken : sheet_refusal sheet room ≡ 0
       }
 
   -- its table is sound at its end
-  table_sound : Sound (run_of sheet).machine.facts (run_of sheet).machine.rows
+  table_sound : Sound (run_of sheet).machine.table.facts (run_of sheet).machine.table.rows
   unfolding run_of
   table_sound =
       let right = plain_ends_right (machine_for sheet) (boards_in sheet) (flips_in sheet) (start_right (facts_in sheet)) allowed.begins in
@@ -81,7 +81,7 @@ module _ (sheet : List ℕ) (room : ℕ) (taken : sheet_refusal sheet room ≡ 0
   pub opens : take (length header) (sheet_text sheet room) ≡ header
   opens =
       let p = run_of sheet in
-      ap (take (length header)) written ∙ lines.opens p.machine.rows p.ending (rounds_in p.cells) (clocks_in p.cells)
+      ap (take (length header)) written ∙ lines.opens p.machine.table.rows p.ending (rounds_in p.cells) (clocks_in p.cells)
 
   -- with 1,100 bytes it is not refused either
   taken_so : sheet_refusal sheet 1100 ≡ 0
@@ -94,10 +94,10 @@ module _ (sheet : List ℕ) (room : ℕ) (taken : sheet_refusal sheet room ≡ 0
   room_enough = written ∙ rw taken_so
 
   -- its rows stand by address
-  pub by_address_lem : pairwise by_address (run_of sheet).machine.rows ≡ true
+  pub by_address_lem : pairwise by_address (run_of sheet).machine.table.rows ≡ true
   by_address_lem =
       let m = (run_of sheet).machine in
-      pairwise_mono in_order by_address (row_right m.facts) (λ a b _ _ h. order_address a b h) m.rows table_sound.each table_sound.order
+      pairwise_mono in_order by_address (row_right m.table.facts) (λ a b _ _ h. order_address a b h) m.table.rows table_sound.each table_sound.order
 
   -- of a sheet of bytes it is the run that the wire plays, bit by bit
   pub on_wire_lem : are_bytes sheet ≡ true → run_of sheet ≡ on_wire 1024 (machine_for sheet) (boards_in sheet) (flips_in sheet)
@@ -116,7 +116,7 @@ at_most sheet room =
     cond_by (λ (l : List ℕ). length l ≤ 1100) (eqb (sheet_refusal sheet room) 0)
     (λ e.
     let long = (table_sound sheet room (eqb-true (sheet_refusal sheet room) 0 e)).long in
-    lines.fits p.machine.rows p.ending (rounds_in p.cells) (clocks_in p.cells) (omega (arith, long)))
+    lines.fits p.machine.table.rows p.ending (rounds_in p.cells) (clocks_in p.cells) (omega (arith, long)))
     (λ _. omega arith)
 
 -- a refused run writes nothing, and hands back its refusal and no length

@@ -45,7 +45,7 @@ run_of sheet = plain (machine_for sheet) (boards_in sheet) (flips_in sheet)
 
 -- the listing of a run: its rows, its ending, its answered rounds and the clocks of its record
 abbrev pub listing_of : Play → List ℕ
-listing_of p = listing p.machine.rows p.ending (rounds_in p.cells) (clocks_in p.cells)
+listing_of p = listing p.machine.table.rows p.ending (rounds_in p.cells) (clocks_in p.cells)
 
 -- what is written: the listing, and nothing after a refusal
 unfoldable pub sheet_text : List ℕ → ℕ → List ℕ

@@ -24,5 +24,11 @@ pub fn run(sheet: &[u8], out: &mut [u8]) -> Result<usize, Refusal>
     let right = Sheet::read(sheet)?;
     let machine = right.start()?;
     let ran = right.play(machine)?;
-    Ok(listing::write(&ran.machine.rows, ran.ending, ran.rounds, ran.clocks, out))
+    Ok(listing::write(
+        &ran.machine.table.rows,
+        ran.ending,
+        ran.rounds,
+        ran.clocks,
+        out,
+    ))
 }
