@@ -1,4 +1,4 @@
--- Definitions over a list, by tests on its elements. (The library's `any` and `all` do not compute outside their own module.)
+-- Definitions over a list, by tests on its elements; any and all are the library's, by the words that the laws use.
 use Rattle.std.specs.Prelude.{ℕ, zero, suc, Bool, true, cond, ◌&&◌, List, [], ◌∷◌, ◌++◌}
 use Rattle.std.specs.List.{list_any, list_all}
 
