@@ -10,7 +10,7 @@ use rows::Row;
 use slots::Facts;
 use table::Table;
 
-// Begin's choices.
+// Begin's choices. (Kept as numbers, as those of Join: a call and a machine can be handed in with any, which is refused 12 and 28.)
 pub const ASSIGN: u8 = 0;
 
 pub const RESET_ALL: u8 = 1;

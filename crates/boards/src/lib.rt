@@ -12,7 +12,8 @@ ghost use Rattle.boards.specs.Wire.{board_of, wire_bit, stay_in, hear, takes, af
 
 use std::array;
 
-// A board: its identity (48-bit Provisioned ID, BCR, DCR, highest bit first), and its address, 0 for none.
+// A board: its identity (48-bit Provisioned ID, BCR, DCR, highest bit first), and its address, 0 for none. (Kept as a number, and no Option: a board
+// can be handed in with any, and one over 127 is refused 2.)
 #[derive(Clone, Copy, Debug, PartialEq, Eq)]
 pub struct Board {
     pub identity: u64,

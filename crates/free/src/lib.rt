@@ -48,7 +48,8 @@ fn lowest_free(t: &Table) -> Option<u8>
     None
 }
 
-// The address that an identity is offered: that of the row which holds it, else the lowest free one, 0 if none is.
+// The address that an identity is offered: that of the row which holds it, else the lowest free one, 0 if none is. (Kept as a number: a machine
+// remembers it so, and can be handed in with any.)
 pub fn address_for(t: &Table, identity: u64) -> u8
     ensures { result ≡ address_for t.now.facts t.now.rows identity }
 {

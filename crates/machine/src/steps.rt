@@ -27,7 +27,7 @@ fn address_asked(rows: &[Row; 32], choice: u8, from: u8, ticket: u32) -> u8
     }
 }
 
-// The present address of a ticket's row, 0 if it has none.
+// The present address of a ticket's row, 0 if it has none: the number that a machine remembers.
 pub fn address_of(rows: &[Row; 32], ticket: u32) -> u8
     ensures { result ≡ address_of rows.now ticket }
 {

@@ -7,7 +7,8 @@ ghost use Rattle.std.specs.Prelude.{◌≡◌, position, find};
 ghost use Rattle.rows.specs.Rows.{in_use, used, has_address, has_ticket, has_identity, has_static, holds_address, holds_static};
 
 // A board that has an address: its dynamic address, its ticket, its identity or the mark that it is unknown (then the number is 0), and the static
-// address that it was set from, 0 if none. A place whose address is 0 is unused.
+// address that it was set from, 0 if none. A place whose address is 0 is unused. (Kept as numbers with a mark, and no Option: a machine can be handed
+// in with any of them, and is then refused 28.)
 #[derive(Clone, Copy, Debug, PartialEq, Eq)]
 pub struct Row {
     pub address: u8,

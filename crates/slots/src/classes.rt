@@ -1,4 +1,5 @@
-// The classes that decide by themselves or with a flag, and that of the numbers above 7Fh.
+// The classes that decide by themselves or with a flag, and that of the numbers above 7Fh. (Kept as numbers: document 01 names the form, the class
+// numbers of all 128 slots as one constant array.)
 pub const OPEN_WITH_FLAG_2: u8 = 2;
 
 pub const CLOSED_BY_FLAG_1: u8 = 3;
