@@ -1,161 +1,93 @@
 -- How a record goes on from a point: what each function of the reader cites.
-use Prim.Native.Nat.{ℕ, zero, suc, ◌+◌, ◌<◌, ◌≤◌}
+use Prim.Native.Nat.{ℕ, ◌<◌, ◌≤◌}
 use mathlib.Core.Path.{◌≡◌, refl, sym, ◌∙◌}
-use mathlib.Core.Bool.{Bool, true, false, cond, not, true≢false}
-use mathlib.Core.List.{List}
+use mathlib.Core.Bool.{true, false, cond, not}
+use mathlib.Core.List.{List, [], ◌∷◌}
 use mathlib.Core.Logic.{◌⊎◌, ⊎_elim}
-use native.Mathlib.Omega.{arith}
-use lib.Count.{ones_in}
-use lib.Dec.{ltb, eqb}
-use lib.ListN.{length, drop, drop_of_length-le, get_or-eq_default}
-use borrow.Author.Tests.{ltb-true, ltb-false, ne_eqb, not-true, not-false}
+use lib.Dec.{eqb}
+use lib.ListN.{length, drop, drop_of_length-le}
+use borrow.Author.Tests.{ne_eqb, not-true, not-false}
 use Rattle.std.specs.Prelude.{Result}
 use Rattle.std.specs.Result.{IsErrAnd}
 use Rattle.std.proofs.lemmas.Result.{err_from_is_err_and}
 use Rattle.lists.proofs.Lists.{drop_step}
-use Rattle.parity.specs.Parity.{odd_bit, parity}
-use Rattle.parity.specs.Cells.{is_identity}
 use Rattle.readings.specs.declared.Joining.{Joining}
-use Rattle.readings.specs.declared.Joining.TheVariants.{Refused, Answered}
-use Rattle.readings.specs.declared.Joining.TheVariants as joinings
 use Rattle.readings.specs.declared.Command.{Command}
 use Rattle.readings.specs.declared.Command.TheVariants.{Assign, ResetAll, SetFromStatic, Move, Silence, Allow}
 use Rattle.readings.specs.declared.Command.TheVariants as commands
 use Rattle.readings.specs.declared.Reading.{Reading}
-use Rattle.readings.specs.Readings.{command_number, may_follow, bare, directed}
-use Rattle.reader.specs.Points.{Point, start, opening, again, reopening, command, event, header, new_address, round, offer, behind, ending}
-use Rattle.reader.specs.Points.{Next, nowhere, to, commanded, next, address_in, answered_in, is_write_byte, is_new_address, is_offered, command_of}
+use Rattle.readings.specs.Readings.{may_follow, bare, directed}
+use Rattle.reader.specs.Points.{Point, start, opening, again, command, event, header, new_address, round, ending}
+use Rattle.reader.specs.Points.{Next, nowhere, to, commanded, next, address_in, answered_in, is_write_byte, is_new_address, command_of}
 use Rattle.reader.specs.declared.Fault.{Fault}
-use Rattle.reader.specs.Read.{Answer, fault_answer, answer_of, says, breaks, stopped, lead, from, cell_at}
-
--- what the cells say from a point at the place `at` on
-abbrev pub read_at : Point → List ℕ → ℕ → Answer
-read_at p s at = from p (drop at s) at
+use Rattle.reader.specs.Read.{Answer, fault_answer, answer_of, says, breaks, stopped, lead, from, Stands}
 
 -- ---- one cell
 
--- a place stands before the end, or what is read there is 65,535
-pub by_place : {P : Type 0} (s : List ℕ) (at : ℕ) → (at < length s → P) → (length s ≤ at → cell_at s at ≡ 65535 → P) → P
-by_place {P} s at f g = go (ltb at (length s)) refl
-  where
-    go : (b : Bool) → ltb at (length s) ≡ b → P
-    go true e = f (ltb-true at (length s) e)
-    go false e =
-        let h : length s ≤ at = ltb-false at (length s) e in
-        g h (get_or-eq_default s 65535 {n = at} h)
+module _ (p : Point) {l more : List ℕ} (at : ℕ) {after x : ℕ} (step : Stands l at x more after) where
+  on : from p l at ≡ lead (next p x) at (λ p'. from p' more after) (λ r. stopped r more after)
+  unfolding from
+  on = rw (step.first, ← step.second)
 
--- which leads nowhere
-nowhere_past : (p : Point) → next p 65535 ≡ nowhere
-unfolding next command_of is_write_byte is_new_address is_offered is_identity odd_bit parity ones_in
-nowhere_past start = refl
-nowhere_past opening = refl
-nowhere_past (again p) = refl
-nowhere_past reopening = refl
-nowhere_past (command joinings.None) = refl
-nowhere_past (command Refused) = refl
-nowhere_past (command Answered) = refl
-nowhere_past (event j c) = refl
-nowhere_past (header c) = refl
-nowhere_past (new_address c a) = refl
-nowhere_past (round j n) = refl
-nowhere_past (offer j n zero) = refl
-nowhere_past (offer j n (suc k)) = refl
-nowhere_past (behind j n) = refl
-nowhere_past (ending r) = refl
-
--- so the cells go on by what is read at a place, also past the end
-pub from_at : (p : Point) (s : List ℕ) (at : ℕ)
-    → read_at p s at ≡ lead (next p (cell_at s at)) at (λ p'. read_at p' s (at + 1)) (λ r. stopped r (drop (at + 1) s) (at + 1))
-unfolding from
-from_at p s at =
-    by_place s at
-    (λ h. rw (drop_step s at 65535 h))
-    (λ h past. rw (drop_of_length-le s {i = at} h, past, nowhere_past p))
-
-module _ (p : Point) (s : List ℕ) (at : ℕ) {x : ℕ} {a : Answer} (cell : x ≡ cell_at s at) where
+module _ (p : Point) {l more : List ℕ} (at : ℕ) {after x : ℕ} {a : Answer} (step : Stands l at x more after) where
   -- the cell leads nowhere
-  pub stuck : nowhere ≡ next p x → a ≡ breaks at → a ≡ read_at p s at
-  stuck e h = h ∙ sym (from_at p s at ∙ rw (← cell, ← e))
+  pub stuck : nowhere ≡ next p x → a ≡ breaks at → a ≡ from p l at
+  stuck e h = h ∙ sym (on p at step ∙ rw (← e))
 
   -- to another point
-  pub onward : (p' : Point) → a ≡ read_at p' s (at + 1) → to p' ≡ next p x → a ≡ read_at p s at
-  onward p' h e = h ∙ sym (from_at p s at ∙ rw (← cell, ← e))
+  pub onward : (p' : Point) → a ≡ from p' more after → to p' ≡ next p x → a ≡ from p l at
+  onward p' h e = h ∙ sym (on p at step ∙ rw (← e))
 
-  -- to STOP, where the code holds the reading in a variable
-  pub to_ending : {q r : Reading} → q ≡ r → a ≡ read_at (ending q) s (at + 1) → to (ending r) ≡ next p x → a ≡ read_at p s at
+  -- to STOP, with the reading as a call gave it
+  pub to_ending : {q r : Reading} → q ≡ r → a ≡ from (ending q) more after → to (ending r) ≡ next p x → a ≡ from p l at
   to_ending same h e = onward (ending _) (h ∙ rw same) e
 
--- the same where the cell is a number: to another point, and to STOP, with the reading as a call gave it
-module _ (p : Point) (s : List ℕ) (at : ℕ) {x n : ℕ} {a : Answer} (cell : x ≡ cell_at s at) (is : x ≡ n) where
-  pub onward_at : (p' : Point) → a ≡ read_at p' s (at + 1) → to p' ≡ next p n → a ≡ read_at p s at
-  onward_at p' h e = onward p s at cell p' h (rw is e)
+  -- the same where the cell is a number
+  module _ {n : ℕ} (is : x ≡ n) where
+    pub onward_at : (p' : Point) → a ≡ from p' more after → to p' ≡ next p n → a ≡ from p l at
+    onward_at p' h e = onward p' h (rw is e)
 
-  pub ending_at : {q r : Reading} → q ≡ r → a ≡ read_at (ending q) s (at + 1) → to (ending r) ≡ next p n → a ≡ read_at p s at
-  ending_at same h e = to_ending p s at cell same h (rw is e)
+    pub ending_at : {q r : Reading} → q ≡ r → a ≡ from (ending q) more after → to (ending r) ≡ next p n → a ≡ from p l at
+    ending_at same h e = to_ending same h (rw is e)
 
--- ---- a cell that must stand at a place
+-- ---- what `?` hands on is the whole record's answer
 
--- where it doesn't, what `?` hands on is the whole record's answer
-pub unmet : (p : Point) (s : List ℕ) (at n : ℕ) (met : Next) → ((x : ℕ) → next p x ≡ cond (eqb x n) met nowhere)
-    → (r : Result Reading Fault) (f : Fault) → IsErrAnd r (λ e. e ≡ f) → (cell_at s at ≡ n → ⊥) × (fault_answer f ≡ breaks at)
-    → answer_of r ≡ read_at p s at
-unmet p s at n met only r f h (other, broken) =
-    let (e, q, same) = err_from_is_err_and r h in
-    rw (q, same) (stuck p s at refl (sym (only (cell_at s at) ∙ rw (ne_eqb (cell_at s at) n other))) broken)
+module _ (p : Point) (l : List ℕ) (at : ℕ) (r : Result Reading Fault) (f : Fault) (h : IsErrAnd r (λ e. e ≡ f)) where
+  -- where the record breaks off
+  pub broken_off : (l ≡ []) × (fault_answer f ≡ breaks at) → answer_of r ≡ from p l at
+  unfolding from
+  broken_off (none, broken) = let (e, q, same) = err_from_is_err_and r h in rw (q, same, none) broken
 
--- a repeated START
-module _ (p : Point) (s : List ℕ) (at : ℕ) {a : Answer} where
-  pub again_on : cell_at s at ≡ 513 → a ≡ read_at p s (at + 1) → a ≡ read_at (again p) s at
+  -- where another cell stands than must
+  pub unmet : (n : ℕ) → ((more : List ℕ) → l ≡ n ∷ more → ⊥) × (fault_answer f ≡ breaks at)
+      → (met : Next) → ((x : ℕ) → next p x ≡ cond (eqb x n) met nowhere) → answer_of r ≡ from p l at
+  unfolding from
+  unmet n (other, broken) met only = let (e, q, same) = err_from_is_err_and r h in rw (q, same) (broken ∙ go l other)
+    where
+      go : (l : List ℕ) → ((more : List ℕ) → l ≡ n ∷ more → ⊥) → breaks at ≡ from p l at
+      go [] g = refl
+      go (x ∷ l) g = rw (only x, ne_eqb x n (λ e. g l (rw e)))
+
+-- ---- START, a repeated START, and STOP
+
+module _ {l more : List ℕ} (at : ℕ) {after : ℕ} {a : Answer} where
+  pub started : Stands l at 512 more after → a ≡ from opening more after → a ≡ from start l at
   unfolding next
-  again_on e h = onward (again p) s at refl p h (rw e)
+  started step h = onward start at step opening h refl
 
--- STOP, with nothing behind it, and with something
-module _ (r : Reading) (s : List ℕ) (at : ℕ) (stop : cell_at s at ≡ 514) where
-  pub stop_last : length s ≤ at + 1 → says r ≡ read_at (ending r) s at
+  pub again_on : (p : Point) → Stands l at 513 more after → a ≡ from p more after → a ≡ from (again p) l at
+  unfolding next
+  again_on p step h = onward (again p) at step p h refl
+
+-- STOP with nothing behind it, and with something
+module _ (r : Reading) (l s : List ℕ) (at after : ℕ) (step : Stands l at 514 (drop after s) after) where
+  pub stop_last : length s ≤ after → says r ≡ from (ending r) l at
   unfolding next stopped
-  stop_last l = sym (from_at (ending r) s at ∙ rw (stop, drop_of_length-le s {i = at + 1} l))
+  stop_last few = sym (on (ending r) at step ∙ rw (drop_of_length-le s {i = after} few))
 
-  pub stop_early : at + 1 < length s → {a : Answer} → a ≡ breaks (at + 1) → a ≡ read_at (ending r) s at
+  pub stop_early : after < length s → {a : Answer} → a ≡ breaks after → a ≡ from (ending r) l at
   unfolding next stopped
-  stop_early l h = h ∙ sym (from_at (ending r) s at ∙ rw (stop, drop_step s (at + 1) 65535 l))
-
--- ---- a cell that passes a test that 65,535 does not pass stands before the end
-
-module _ (s : List ℕ) (at : ℕ) {x : ℕ} (cell : x ≡ cell_at s at) where
-  stands_by : (f : ℕ → Bool) → f 65535 ≡ false → f x ≡ true → at + 1 ≤ length s
-  stands_by f none e = by_place s at (λ h. omega arith) (λ h past. absurd (true≢false (sym e ∙ rw (cell, past) none)))
-
-  pub stands : (n : ℕ) → x ≡ n → ltb n 65535 ≡ true → at + 1 ≤ length s
-  stands n e h = stands_by (λ y. ltb y 65535) refl (rw e h)
-
-  pub write_stands : not (is_write_byte x) ≡ false → at + 1 ≤ length s
-  unfolding is_write_byte
-  write_stands e = stands_by is_write_byte refl (not-false _ e)
-
-  pub new_stands : not (is_new_address x) ≡ false → at + 1 ≤ length s
-  unfolding is_new_address is_write_byte
-  new_stands e = stands_by is_new_address refl (not-false _ e)
-
-  pub offered_stands : not (is_offered x) ≡ false → at + 1 ≤ length s
-  unfolding is_offered
-  offered_stands e = stands_by is_offered refl (not-false _ e)
-
-  pub command_stands : {k : Command} → k ≡ command_of x → (d : Command) → k ≡ d → ltb 0 (command_number d) ≡ true → at + 1 ≤ length s
-  unfolding command_of odd_bit parity ones_in
-  command_stands told d e some = stands_by (λ y. ltb 0 (command_number (command_of y))) refl (rw (← told, e) some)
-
-  pub either_stands : {k : Command} → k ≡ command_of x → (d e : Command) → (k ≡ d) ⊎ (k ≡ e) → ltb 0 (command_number d) ≡ true
-      → ltb 0 (command_number e) ≡ true → at + 1 ≤ length s
-  either_stands told d e h f g = ⊎_elim (λ i. command_stands told d i f) (λ i. command_stands told e i g) h
-
--- ---- the first two cells
-
-pub started : (s : List ℕ) {a : Answer} → cell_at s 0 ≡ 512 → a ≡ read_at opening s 1 → a ≡ from start s 0
-unfolding next
-started s e h = onward start s 0 refl opening h (rw e)
-
-pub two_stand : (s : List ℕ) {x : ℕ} → x ≡ cell_at s 1 → (n : ℕ) → x ≡ n → ltb n 65535 ≡ true → 2 ≤ length s
-two_stand s cell n e h = stands s 1 cell n e h
+  stop_early more {a} h = h ∙ sym (on (ending r) at step ∙ rw (drop_step s after 65535 more))
 
 -- ---- a command
 
@@ -189,18 +121,17 @@ pub ruleset leads = (none_leads, assign_leads, reset_leads, header_leads, event_
 
 -- ---- the header of a set or a move, and the new address behind it
 
-module _ (c : Command) (s : List ℕ) (at : ℕ) {x v : ℕ} {a : Answer} (cell : x ≡ cell_at s at) (address : v ≡ address_in x) where
-  pub renamed : (b : ℕ) {q : Reading} → not (is_new_address x) ≡ false → q ≡ directed c b v true → a ≡ read_at (ending q) s (at + 1)
-      → a ≡ read_at (new_address c b) s at
+module _ (c : Command) {l more : List ℕ} (at : ℕ) {after x y : ℕ} {a : Answer} (step : Stands l at x more after) (address : y ≡ address_in x) where
+  pub renamed : (b : ℕ) {q : Reading} → not (is_new_address x) ≡ false → q ≡ directed c b y true → a ≡ from (ending q) more after
+      → a ≡ from (new_address c b) l at
   unfolding next
-  renamed b new e h = to_ending (new_address c b) s at cell e h (rw (not-false (is_new_address x) new, address))
+  renamed b new e h = to_ending (new_address c b) at step e h (rw (not-false (is_new_address x) new, address))
 
   module _ (write : not (is_write_byte x) ≡ false) where
-    pub header-answered : answered_in x ≡ true → a ≡ read_at (new_address c v) s (at + 1) → a ≡ read_at (header c) s at
+    pub header-answered : answered_in x ≡ true → a ≡ from (new_address c y) more after → a ≡ from (header c) l at
     unfolding next
-    header-answered heard h = onward (header c) s at cell (new_address c v) h (rw (not-false (is_write_byte x) write, heard, address))
+    header-answered heard h = onward (header c) at step (new_address c y) h (rw (not-false (is_write_byte x) write, heard, address))
 
-    pub header_silent : {q : Reading} → answered_in x ≡ false → q ≡ directed c v 0 false → a ≡ read_at (ending q) s (at + 1)
-        → a ≡ read_at (header c) s at
+    pub header_silent : {q : Reading} → answered_in x ≡ false → q ≡ directed c y 0 false → a ≡ from (ending q) more after → a ≡ from (header c) l at
     unfolding next
-    header_silent heard e h = to_ending (header c) s at cell e h (rw (not-false (is_write_byte x) write, heard, address))
+    header_silent heard e h = to_ending (header c) at step e h (rw (not-false (is_write_byte x) write, heard, address))

@@ -1,5 +1,5 @@
 pub mod Commands
 pub mod Cells
 pub mod Laws
-pub mod Rounds
 pub mod Bytes
+pub mod Rounds

@@ -1,94 +1,84 @@
 -- How the rounds go on: the eight identity bytes of an offer, the address byte, and what stands behind it.
-use Prim.Native.Nat.{ℕ, zero, suc, ◌+◌, ◌<◌, ◌≤◌}
-use mathlib.Core.Path.{◌≡◌, refl, sym, ◌∙◌}
-use mathlib.Core.Bool.{Bool, true, false, cond, not}
-use mathlib.Core.List.{List, [], ◌∷◌}
-use native.Mathlib.Nat.{add-zero}
+use Prim.Native.Nat.{ℕ, suc, ◌+◌, ◌-◌, ◌<◌, ◌≤◌}
+use mathlib.Core.Path.{◌≡◌, refl, ap, ◌∙◌}
+use mathlib.Core.Bool.{true, false, not}
+use mathlib.Core.List.{List, []}
 use native.Mathlib.Omega.{arith}
-use lib.Dec.{ltb, leb-suc-suc}
-use lib.ListN.{length, take, drop, length-take}
-use lib.Seq.{drop-drop}
-use borrow.Author.Tests.{lt-ltb, ne_eqb, not-false}
-use Rattle.std.specs.List.{prefix_len, take_while}
-use Rattle.std.proofs.lemmas.List.Sums.{prefix_len-le-length}
-use Rattle.std.proofs.lemmas.List.Folds.{length-prefix_len}
+use lib.ListN.{length}
+use borrow.Author.Tests.{ne_eqb, not-true, not-false}
+use Rattle.std.specs.Prelude.{Result}
+use Rattle.std.specs.Result.{IsErrAnd}
 use Rattle.parity.specs.Cells.{is_identity}
 use Rattle.readings.specs.declared.Joining.{Joining}
 use Rattle.readings.specs.declared.Reading.{Reading}
 use Rattle.readings.specs.Readings.{assigned}
 use Rattle.reader.specs.Points.{again, round, offer, behind, ending, next, is_offered}
-use Rattle.reader.specs.Read.{Answer, breaks, from, cell_at}
-use Rattle.reader.proofs.Laws.{read_at, from_at, onward}
-
--- ---- counting identity bytes
-
--- how many of the first k cells are identity bytes, up to the first that is none
-abbrev heard : ℕ → List ℕ → ℕ
-heard k xs = prefix_len is_identity (take k xs)
-
--- so many does the library take
-taken : (k : ℕ) (xs : List ℕ) → length (take_while is_identity (take k xs)) ≡ heard k xs
-taken k xs = length-prefix_len is_identity (take k xs)
-
-so_many : {k : ℕ} (s : List ℕ) (at : ℕ) → k ≡ length (take_while is_identity (take 8 (drop at s))) → k ≡ heard 8 (drop at s)
-so_many s at e = e ∙ taken 8 (drop at s)
-
--- at most k, and all before the end
-heard_le : (k : ℕ) (xs : List ℕ) → (heard k xs ≤ k) × (heard k xs ≤ length xs)
-heard_le k xs = omega (arith, prefix_len-le-length is_identity (take k xs), length-take k xs)
+use Rattle.reader.specs.declared.Fault.{Fault}
+use Rattle.reader.specs.Read.{Answer, fault_answer, answer_of, breaks, from, Stands}
+use Rattle.reader.proofs.Laws.{stuck, onward, broken_off}
 
 -- ---- an offer
 
-module _ (j : Joining) (n : ℕ) where
-  -- with k identity bytes to come: where another cell stands, or what follows them
-  abbrev listened : ℕ → List ℕ → ℕ → Answer
-  listened k xs at = cond (ltb (heard k xs) k) (breaks (at + heard k xs)) (from (offer j n 0) (drop k xs) (at + k))
+-- k identity bytes were heard: what the cells say from there on is what they say from the first on, and stood k places before
+pub record Heard (j : Joining) (n : ℕ) (l₀ : List ℕ) (at₀ : ℕ) (l : List ℕ) (at k : ℕ) : Type 0 where
+  pub same : from (offer j n (8 - k)) l at ≡ from (offer j n 8) l₀ at₀
+  pub place : at ≡ at₀ + k
+  pub left : length l + k ≡ length l₀
 
-  listen_one : (k x : ℕ) (xs : List ℕ) (at : ℕ) → from (offer j n k) xs (at + 1) ≡ listened k xs (at + 1) → (b : Bool) → is_identity x ≡ b
-      → from (offer j n (suc k)) (x ∷ xs) at ≡ listened (suc k) (x ∷ xs) at
-  unfolding from next
-  listen_one k x xs at ih true e =
-      let p : at + 1 + heard k xs ≡ at + suc (heard k xs) = omega arith in
-      let q : at + 1 + k ≡ at + suc k = omega arith in
-      let one : 1 + heard k xs ≡ suc (heard k xs) = omega arith in
-      simp (e, one, leb-suc-suc) (rw (p, q) at ih)
-  listen_one k x xs at ih false e = simp (e, lt-ltb 0 (suc k) (omega arith), add-zero)
+module _ (j : Joining) (n : ℕ) (l₀ : List ℕ) (at₀ : ℕ) where
+  pub heard_start : Heard j n l₀ at₀ l₀ at₀ 0
+  heard_start = record { same = refl; place = omega arith; left = omega arith }
 
-  listen : (k : ℕ) (xs : List ℕ) (at : ℕ) → from (offer j n k) xs at ≡ listened k xs at
-  unfolding from
-  listen zero xs at = simp add-zero
-  listen (suc k) [] at = simp (lt-ltb 0 (suc k) (omega arith), add-zero)
-  listen (suc k) (x ∷ xs) at = listen_one k x xs at (listen k xs (at + 1)) (is_identity x) refl
+  -- the address byte follows eight of them
+  pub heard_all : {l : List ℕ} {at k : ℕ} → Heard j n l₀ at₀ l at k → 8 ≤ k → k ≤ 8 → {a : Answer} → a ≡ from (offer j n 0) l at
+      → a ≡ from (offer j n 8) l₀ at₀
+  heard_all {k = k} v most few h = let none : 8 - k ≡ 0 = omega arith in h ∙ (rw none at v.same)
 
-  module _ (s : List ℕ) (at : ℕ) {k : ℕ} {a : Answer} (e : k ≡ length (take_while is_identity (take 8 (drop at s)))) where
-    pub heard_few : k < 8 → a ≡ breaks (at + k) → a ≡ read_at (offer j n 8) s at
-    heard_few few h = h ∙ sym (listen 8 (drop at s) at ∙ rw (← (so_many s at e), lt-ltb k 8 few))
+  module _ {l : List ℕ} {at k : ℕ} (v : Heard j n l₀ at₀ l at k) (few : k < 8) where
+    one_more : 8 - k ≡ suc (8 - (k + 1))
+    one_more = omega arith
 
-    pub heard_eight : 8 ≤ k → a ≡ read_at (offer j n 0) s (at + k) → a ≡ read_at (offer j n 8) s at
-    heard_eight most h =
-        let eight : k ≡ 8 = omega (arith, (so_many s at e), heard_le 8 (drop at s)) in
-        h ∙ sym (listen 8 (drop at s) at ∙ rw (← (so_many s at e)) (rw (eight, drop-drop)))
+    -- where the record breaks off among them
+    pub heard_none : (r : Result Reading Fault) (f : Fault) → IsErrAnd r (λ e. e ≡ f) → (l ≡ []) × (fault_answer f ≡ breaks at)
+        → answer_of r ≡ from (offer j n 8) l₀ at₀
+    heard_none r f h off = broken_off (offer j n (8 - k)) l at r f h off ∙ v.same
+
+    module _ {x after : ℕ} {more : List ℕ} (step : Stands l at x more after) where
+      pub heard_turn : not (is_identity x) ≡ false → Heard j n l₀ at₀ more after (k + 1)
+      unfolding next
+      heard_turn e =
+          record {
+            same = onward (offer j n (suc (8 - (k + 1)))) at step (offer j n (8 - (k + 1))) refl (rw (not-false (is_identity x) e)) ∙ (rw one_more at v.same);
+            place = omega (arith, v.place, step.second);
+            left = omega (arith, v.left, ap (λ (c : List ℕ). length c) step.first);
+          }
+
+      pub heard_other : not (is_identity x) ≡ true → {a : Answer} → a ≡ breaks at → a ≡ from (offer j n 8) l₀ at₀
+      unfolding next
+      heard_other e h = stuck (offer j n (suc (8 - (k + 1)))) at step (rw (not-true (is_identity x) e)) h ∙ (rw one_more at v.same)
 
 -- ---- behind an offer
 
--- STOP there is the end of the rounds; any other cell is read as a repeated START
-module _ (j : Joining) (n : ℕ) (s : List ℕ) (at : ℕ) {y : ℕ} (cell : y ≡ cell_at s at) where
-  behind_stop : y ≡ 514 → read_at (ending (assigned j n true)) s at ≡ read_at (behind j n) s at
+module _ (j : Joining) (n : ℕ) {l more : List ℕ} (at : ℕ) {after x : ℕ} {a : Answer} (step : Stands l at x more after) where
+  pub not_offered : not (is_offered x) ≡ true → a ≡ breaks at → a ≡ from (offer j n 0) l at
   unfolding next
-  behind_stop e = rw (from_at, ← cell, e) (sym (rw (from_at, ← cell, e)))
+  not_offered e h = stuck (offer j n 0) at step (rw (not-true (is_offered x) e)) h
 
-  behind_again : (y ≡ 514 → ⊥) → read_at (again (round j n)) s at ≡ read_at (behind j n) s at
-  unfolding next
-  behind_again e = rw (from_at, ← cell) (sym (rw (from_at, ← cell, ne_eqb y 514 e)))
+  module _ (e : not (is_offered x) ≡ false) where
+    pub offered : a ≡ from (behind j (n + 1)) more after → a ≡ from (offer j n 0) l at
+    unfolding next
+    offered h = onward (offer j n 0) at step (behind j (n + 1)) h (rw (not-false (is_offered x) e))
 
-module _ (j : Joining) (n : ℕ) (s : List ℕ) (at : ℕ) {x y : ℕ} {a : Answer} (cell : x ≡ cell_at s at) (fits : not (is_offered x) ≡ false)
-    (after : y ≡ cell_at s (at + 1)) where
-  offered : a ≡ read_at (behind j (n + 1)) s (at + 1) → a ≡ read_at (offer j n 0) s at
-  unfolding next
-  offered h = onward (offer j n 0) s at cell (behind j (n + 1)) h (rw (not-false (is_offered x) fits))
+    -- STOP there is the end of the rounds; any other cell is read as a repeated START
+    module _ {y beyond : ℕ} {last : List ℕ} (then : Stands more after y last beyond) where
+      pub offered_last : {q : Reading} → y ≡ 514 → q ≡ assigned j (n + 1) true → a ≡ from (ending q) more after → a ≡ from (offer j n 0) l at
+      unfolding from next
+      offered_last f same h =
+          let ends : from (ending (assigned j (n + 1) true)) more after ≡ from (behind j (n + 1)) more after = rw (then.first, f) in
+          offered (h ∙ rw same ends)
 
-  pub offered_last : {q : Reading} → y ≡ 514 → q ≡ assigned j (n + 1) true → a ≡ read_at (ending q) s (at + 1) → a ≡ read_at (offer j n 0) s at
-  offered_last e same h = offered (h ∙ rw same (behind_stop j (n + 1) s (at + 1) after e))
-
-  pub offered_again : (y ≡ 514 → ⊥) → a ≡ read_at (again (round j (n + 1))) s (at + 1) → a ≡ read_at (offer j n 0) s at
-  offered_again e h = offered (h ∙ behind_again j (n + 1) s (at + 1) after e)
+      pub offered_again : (y ≡ 514 → ⊥) → a ≡ from (again (round j (n + 1))) more after → a ≡ from (offer j n 0) l at
+      unfolding from next
+      offered_again f h =
+          let goes : from (again (round j (n + 1))) more after ≡ from (behind j (n + 1)) more after = rw (then.first, ne_eqb y 514 f) in
+          offered (h ∙ goes)

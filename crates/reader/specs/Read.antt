@@ -9,6 +9,7 @@ use Rattle.readings.specs.declared.Reading.{Reading}
 use Rattle.readings.specs.Readings.{bare}
 use Rattle.refusals.specs.Refusals.{number}
 use Rattle.reader.specs.declared.Fault.{Fault}
+use Rattle.reader.specs.declared.place.Place.{Place}
 use Rattle.reader.specs.Points.{Point, Next, nowhere, to, over, start, next, byte_of, ninth_of}
 
 -- ---- the answer
@@ -57,16 +58,38 @@ unfoldable pub from : Point → List ℕ → ℕ → Answer
 from p [] at = breaks at
 from p (x ∷ xs) at = lead (next p x) at (λ p'. from p' xs (at + 1)) (λ r. stopped r xs (at + 1))
 
+-- ---- places
+
+-- the cells from a place on
+abbrev pub rest : Place → List ℕ
+rest w = drop w.at w.cells.now
+
+-- what they say from a point on
+abbrev pub read_from : Point → Place → Answer
+read_from p w = from p (rest w) w.at
+
+-- the cell x is the first of these, and stands at the place `at`; the others stand from the next place on
+pub record Stands (cells : List ℕ) (at x : ℕ) (others : List ℕ) (after : ℕ) : Type 0 where
+  pub first : cells ≡ x ∷ others
+  pub second : after ≡ at + 1
+
+-- the cell x stands at a place, and this is the place behind it
+abbrev pub Step : Place → ℕ → Place → Type 0
+Step w x v = Stands (rest w) w.at x (rest v) v.at
+
+-- the cell at a place and the place behind it, or the record breaks off there
+abbrev pub Takes : Place → Result (ℕ × Place) Fault → Type 0
+Takes w r = MatchResult r (λ t. Step w t.0 t.1) (λ f. (rest w ≡ []) × (fault_answer f ≡ breaks w.at))
+
+-- the place behind the cell that must stand at a place, or no layout fits there
+abbrev pub Expects : Place → ℕ → Result Place Fault → Type 0
+Expects w n r = MatchResult r (λ v. Step w n v) (λ f. ((xs : List ℕ) → rest w ≡ n ∷ xs → ⊥) × (fault_answer f ≡ breaks w.at))
+
 -- ---- the offers
 
 -- the cell at a place; 65,535, which leads nowhere, past the end
 abbrev pub cell_at : List ℕ → ℕ → ℕ
 cell_at cells place = get_or cells place 65535
-
--- the cell that must stand at a place does, or no layout fits there
-abbrev pub Stands : List ℕ → ℕ → ℕ → Result (Unit {0}) Fault → Type 0
-Stands cells place x r =
-    MatchResult r (λ _. cell_at cells place ≡ x) (λ f. (cell_at cells place ≡ x → ⊥) × (fault_answer f ≡ breaks place))
 
 -- the byte of an identity's cell, its lowest eight bits
 abbrev pub identity_byte : ℕ → ℕ

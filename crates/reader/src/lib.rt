@@ -10,8 +10,10 @@ ghost use Rattle.reader.specs.Read.{fault_answer, answer_of, answer_to, breaks, 
 
 mod kinds;
 mod offers;
+mod place;
 mod points;
 
+use place::Place;
 use readings::{MOST_CELLS, Reading};
 use refusals::Refusal;
 
@@ -53,7 +55,7 @@ pub fn read(cells: &[u16], buffer: &mut [u8]) -> Result<Reading, Fault>
     if MOST_CELLS < cells.len() {
         return Err(Fault::from(Refusal::TooLong));
     }
-    let reading = points::record(cells)?;
+    let reading = Place { cells, at: 0 }.record()?;
     // divided, since ten times the count might not fit
     if buffer.len() / 10 < reading.offers {
         return Err(Fault::from(Refusal::NoRoom));

@@ -1,11 +1,20 @@
 // The offers of a record that was read, ten bytes each.
 ghost use Rattle.std.specs.Prelude.{◌≡◌, ◌+◌, ◌*◌, ◌^◌, ◌≤◌, ◌<◌, length, drop};
 ghost use Rattle.lists.specs.Buffers.{lay_at, lay};
-ghost use Rattle.reader.specs.Read.{ten_of, rounds_at, offers_of};
+ghost use Rattle.reader.specs.Read.{cell_at, ten_of, rounds_at, offers_of};
 
 use crate::kinds;
-use crate::points::cell_at;
 use readings::{Joining, Reading};
+
+// What is read past the end.
+const NO_CELL: u16 = 65535;
+
+// The cell at a place.
+fn cell_at(cells: &[u16], place: usize) -> u16
+    ensures { result ≡ cell_at cells.now place }
+{
+    cells.get(place).copied().unwrap_or(NO_CELL)
+}
 
 // How many cells stand before the first round header.
 fn rounds_at(joining: Joining) -> usize

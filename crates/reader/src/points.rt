@@ -1,198 +1,169 @@
-// The layouts cell by cell. Each function but `cell_at`, `expect` and `identities` reads from one point of a record on and says what the whole record
-// says, or where it breaks.
-ghost use Rattle.std.specs.Prelude.{◌≡◌, ◌≤◌, length, take, drop};
-ghost use Rattle.std.specs.List.{take_while};
-ghost use Rattle.parity.specs.Cells.{is_identity};
+// The layouts cell by cell. Each function but `take` and `expect` reads from one point of a record on and says what the whole record says, or where it
+// breaks.
+ghost use Rattle.std.specs.Prelude.{◌≡◌, ◌≤◌};
 ghost use Rattle.reader.specs.Points.{start, again, reopening, new_address};
 ghost use Rattle.reader.specs.Points.{ending, event, header, command};
 ghost use Rattle.reader.specs.Points.{round, offer};
-ghost use Rattle.reader.specs.Read.{Stands, answer_of, from, cell_at};
+ghost use Rattle.reader.specs.Read.{Takes, Expects, answer_of, read_from};
 
+use crate::place::Place;
 use crate::{Fault, kinds};
-use readings::{Command, Joining, Reading};
+use readings::{Command, Joining, Reading, assigned, bare, directed};
 
-// What is read past the end: it leads nowhere, as any cell that can't stand there.
-const NO_CELL: u16 = 65535;
-
-// The cell at a place.
-pub fn cell_at(cells: &[u16], place: usize) -> u16
-    ensures { result ≡ cell_at cells.now place }
-{
-    cells.get(place).copied().unwrap_or(NO_CELL)
-}
-
-// The cell that must stand at a place.
-fn expect(cells: &[u16], at: usize, cell: u16) -> Result<(), Fault>
-    ensures { Stands cells.now at cell result }
-{
-    if cell_at(cells, at) != cell {
-        return Err(Fault::at(at));
+impl<'a> Place<'a> {
+    // The cell here, and the place behind it.
+    fn take(self) -> Result<(u16, Place<'a>), Fault>
+        ensures { Takes self.entry result }
+    {
+        let Place { cells, at } = self;
+        match cells.get(at) {
+            Some(&cell) => Ok((cell, Place { cells, at: at + 1 })),
+            None => Err(Fault::at(at)),
+        }
     }
-    Ok(())
-}
 
-// STOP, and nothing behind it.
-fn ending(cells: &[u16], at: usize, reading: Reading) -> Result<Reading, Fault>
-    requires { at ≤ length cells.now }
-    ensures { answer_of result ≡ from (ending reading) (drop at cells.now) at }
-{
-    expect(cells, at, parity::STOP)?;
-    if at + 1 < cells.len() {
-        return Err(Fault::at(at + 1));
+    // The place behind the cell that must stand here.
+    fn expect(self, cell: u16) -> Result<Place<'a>, Fault>
+        ensures { Expects self.entry cell result }
+    {
+        let (found, next) = self.take()?;
+        if found != cell {
+            return Err(Fault::at(self.at));
+        }
+        Ok(next)
     }
-    Ok(reading)
-}
 
-// The data byte of silence and allow.
-fn event(cells: &[u16], at: usize, joining: Joining, command: Command) -> Result<Reading, Fault>
-    requires { at ≤ length cells.now }
-    ensures { answer_of result ≡ from (event joining command) (drop at cells.now) at }
-{
-    expect(cells, at, parity::JOINING)?;
-    ending(cells, at + 1, readings::bare(joining, command))
-}
+    // STOP, and nothing behind it.
+    fn ending(self, reading: Reading) -> Result<Reading, Fault>
+        ensures { answer_of result ≡ read_from (ending reading) self.entry }
+    {
+        let end = self.expect(parity::STOP)?;
+        if end.at < end.cells.len() {
+            return Err(Fault::at(end.at));
+        }
+        Ok(reading)
+    }
 
-// The new address, behind the header to this one.
-fn new_address(cells: &[u16], at: usize, command: Command, address: u8) -> Result<Reading, Fault>
-    requires { at ≤ length cells.now }
-    ensures { answer_of result ≡ from (new_address command address) (drop at cells.now) at }
-{
-    let cell = cell_at(cells, at);
-    if !kinds::is_new_address(cell) {
-        return Err(Fault::at(at));
+    // The data byte of silence and allow.
+    fn event(self, joining: Joining, command: Command) -> Result<Reading, Fault>
+        ensures { answer_of result ≡ read_from (event joining command) self.entry }
+    {
+        let next = self.expect(parity::JOINING)?;
+        next.ending(bare(joining, command))
     }
-    let reading = readings::directed(command, address, kinds::address_in(cell), true);
-    ending(cells, at + 1, reading)
-}
 
-// A repeated START, and the header of a set or a move.
-fn header(cells: &[u16], at: usize, command: Command) -> Result<Reading, Fault>
-    requires { at ≤ length cells.now }
-    ensures { answer_of result ≡ from (again (header command)) (drop at cells.now) at }
-{
-    expect(cells, at, parity::REPEATED_START)?;
-    let at = at + 1;
-    let cell = cell_at(cells, at);
-    if !kinds::is_write_byte(cell) {
-        return Err(Fault::at(at));
+    // The new address, behind the header to this one.
+    fn new_address(self, command: Command, address: u8) -> Result<Reading, Fault>
+        ensures { answer_of result ≡ read_from (new_address command address) self.entry }
+    {
+        let (cell, next) = self.take()?;
+        if !kinds::is_new_address(cell) {
+            return Err(Fault::at(self.at));
+        }
+        let new = kinds::address_in(cell);
+        next.ending(directed(command, address, new, true))
     }
-    let address = kinds::address_in(cell);
-    if kinds::answered_in(cell) {
-        return new_address(cells, at + 1, command, address);
-    }
-    ending(
-        cells,
-        at + 1,
-        readings::directed(command, address, 0, false),
-    )
-}
 
-// How many of the next eight cells are identity bytes, up to the first that is none.
-fn identities(cells: &[u16], at: usize) -> usize
-    ensures { result ≡ length (take_while is_identity (take 8 (drop at cells.now))) }
-{
-    cells
-        .iter()
-        .skip(at)
-        .take(8)
-        .take_while(|x| kinds::is_identity(**x))
-        .count()
-}
+    // A repeated START, and the header of a set or a move.
+    fn header(self, command: Command) -> Result<Reading, Fault>
+        ensures { answer_of result ≡ read_from (again (header command)) self.entry }
+    {
+        let header = self.expect(parity::REPEATED_START)?;
+        let (cell, next) = header.take()?;
+        if !kinds::is_write_byte(cell) {
+            return Err(Fault::at(header.at));
+        }
+        let address = kinds::address_in(cell);
+        if kinds::answered_in(cell) {
+            next.new_address(command, address)
+        } else {
+            next.ending(directed(command, address, 0, false))
+        }
+    }
 
-// A repeated START and a round header. An answer leads to an offer.
-#[cycle(offer_round)]
-fn round(cells: &[u16], at: usize, joining: Joining, offers: usize) -> Result<Reading, Fault>
-    requires { (offers ≤ at) × (at ≤ length cells.now) }
-    ensures { answer_of result ≡ from (again (round joining offers)) (drop at cells.now) at }
-{
-    expect(cells, at, parity::REPEATED_START)?;
-    let at = at + 1;
-    match cell_at(cells, at) {
-        parity::BROADCAST_READ_ANSWERED => offer(cells, at + 1, joining, offers),
-        parity::BROADCAST_READ_SILENT => ending(
-            cells,
-            at + 1,
-            readings::assigned(joining, offers, false),
-        ),
-        _ => Err(Fault::at(at)),
+    // A repeated START and a round header. An answer leads to an offer. Kept, that these two call each other: document 01 names the form.
+    #[cycle(offer_round)]
+    fn round(self, joining: Joining, offers: usize) -> Result<Reading, Fault>
+        requires { offers ≤ self.at }
+        ensures { answer_of result ≡ read_from (again (round joining offers)) self.entry }
+    {
+        let header = self.expect(parity::REPEATED_START)?;
+        let (cell, next) = header.take()?;
+        match cell {
+            parity::BROADCAST_READ_ANSWERED => next.offer(joining, offers),
+            parity::BROADCAST_READ_SILENT => next.ending(assigned(joining, offers, false)),
+            _ => Err(Fault::at(header.at)),
+        }
     }
-}
 
-// Eight identity bytes and the address byte. STOP may follow; else a repeated START leads back to a round header.
-#[cycle(offer_round)]
-fn offer(cells: &[u16], at: usize, joining: Joining, offers: usize) -> Result<Reading, Fault>
-    requires { (offers ≤ at) × (at ≤ length cells.now) }
-    ensures { answer_of result ≡ from (offer joining offers 8) (drop at cells.now) at }
-{
-    let heard = identities(cells, at);
-    let at = at + heard;
-    if heard < 8 {
-        return Err(Fault::at(at));
+    // Eight identity bytes and the address byte. STOP may follow; else a repeated START leads back to a round header.
+    #[cycle(offer_round)]
+    fn offer(self, joining: Joining, offers: usize) -> Result<Reading, Fault>
+        requires { offers ≤ self.at }
+        ensures { answer_of result ≡ read_from (offer joining offers 8) self.entry }
+    {
+        let mut place = self;
+        for _heard in 0..8usize {
+            let (cell, next) = place.take()?;
+            if !kinds::is_identity(cell) {
+                return Err(Fault::at(place.at));
+            }
+            place = next;
+        }
+        let (cell, next) = place.take()?;
+        if !kinds::is_offered(cell) {
+            return Err(Fault::at(place.at));
+        }
+        let (cell, _) = next.take()?;
+        if cell == parity::STOP {
+            return next.ending(assigned(joining, offers + 1, true));
+        }
+        next.round(joining, offers + 1)
     }
-    if !kinds::is_offered(cell_at(cells, at)) {
-        return Err(Fault::at(at));
-    }
-    let at = at + 1;
-    if cell_at(cells, at) == parity::STOP {
-        return ending(cells, at, readings::assigned(joining, offers + 1, true));
-    }
-    round(cells, at, joining, offers + 1)
-}
 
-// A command, behind an answered 7Eh.
-fn command(cells: &[u16], at: usize, joining: Joining) -> Result<Reading, Fault>
-    requires { at ≤ length cells.now }
-    ensures { answer_of result ≡ from (command joining) (drop at cells.now) at }
-{
-    let command = kinds::command_of(cell_at(cells, at));
-    if !readings::may_follow(joining, command) {
-        return Err(Fault::at(at));
+    // A command, behind an answered 7Eh.
+    fn command(self, joining: Joining) -> Result<Reading, Fault>
+        ensures { answer_of result ≡ read_from (command joining) self.entry }
+    {
+        let (cell, next) = self.take()?;
+        let command = kinds::command_of(cell);
+        if !readings::may_follow(joining, command) {
+            return Err(Fault::at(self.at));
+        }
+        match command {
+            Command::None => Err(Fault::at(self.at)),
+            Command::Assign => next.round(joining, 0),
+            Command::ResetAll => next.ending(bare(joining, command)),
+            Command::SetFromStatic | Command::Move => next.header(command),
+            Command::Silence | Command::Allow => next.event(joining, command),
+        }
     }
-    match command {
-        Command::None => Err(Fault::at(at)),
-        Command::Assign => round(cells, at + 1, joining, 0),
-        Command::ResetAll => ending(cells, at + 1, readings::bare(joining, command)),
-        Command::SetFromStatic | Command::Move => header(cells, at + 1, command),
-        Command::Silence | Command::Allow => event(cells, at + 1, joining, command),
-    }
-}
 
-// A repeated START and 7Eh, behind an answered joining.
-fn joined(cells: &[u16], at: usize) -> Result<Reading, Fault>
-    requires { at ≤ length cells.now }
-    ensures { answer_of result ≡ from (again reopening) (drop at cells.now) at }
-{
-    expect(cells, at, parity::REPEATED_START)?;
-    let at = at + 1;
-    match cell_at(cells, at) {
-        parity::BROADCAST_WRITE_ANSWERED => command(cells, at + 1, Joining::Answered),
-        parity::BROADCAST_WRITE_SILENT => ending(
-            cells,
-            at + 1,
-            readings::bare(Joining::Answered, Command::None),
-        ),
-        _ => Err(Fault::at(at)),
+    // A repeated START and 7Eh, behind an answered joining.
+    fn joined(self) -> Result<Reading, Fault>
+        ensures { answer_of result ≡ read_from (again reopening) self.entry }
+    {
+        let header = self.expect(parity::REPEATED_START)?;
+        let (cell, next) = header.take()?;
+        match cell {
+            parity::BROADCAST_WRITE_ANSWERED => next.command(Joining::Answered),
+            parity::BROADCAST_WRITE_SILENT => next.ending(bare(Joining::Answered, Command::None)),
+            _ => Err(Fault::at(header.at)),
+        }
     }
-}
 
-// START, and 7Eh or a board that asks to join.
-pub fn record(cells: &[u16]) -> Result<Reading, Fault>
-    ensures { answer_of result ≡ from start cells.now 0 }
-{
-    expect(cells, 0, parity::START)?;
-    match cell_at(cells, 1) {
-        parity::BROADCAST_WRITE_ANSWERED => command(cells, 2, Joining::None),
-        parity::BROADCAST_WRITE_SILENT => ending(
-            cells,
-            2,
-            readings::bare(Joining::None, Command::None),
-        ),
-        parity::HOT_JOIN_ANSWERED => joined(cells, 2),
-        parity::HOT_JOIN_REFUSED => ending(
-            cells,
-            2,
-            readings::bare(Joining::Refused, Command::None),
-        ),
-        _ => Err(Fault::at(1)),
+    // START, and 7Eh or a board that asks to join.
+    pub fn record(self) -> Result<Reading, Fault>
+        ensures { answer_of result ≡ read_from start self.entry }
+    {
+        let header = self.expect(parity::START)?;
+        let (cell, next) = header.take()?;
+        match cell {
+            parity::BROADCAST_WRITE_ANSWERED => next.command(Joining::None),
+            parity::BROADCAST_WRITE_SILENT => next.ending(bare(Joining::None, Command::None)),
+            parity::HOT_JOIN_ANSWERED => next.joined(),
+            parity::HOT_JOIN_REFUSED => next.ending(bare(Joining::Refused, Command::None)),
+            _ => Err(Fault::at(header.at)),
+        }
     }
 }
