@@ -10,16 +10,17 @@ use native.Mathlib.Numerals.{add-one}
 use lib.Dec.{eqb, ltb}
 use lib.ListN.{length, take, get_or, set, replicate, get_or-replicate, length-replicate, length-set}
 use lib.Seq.{take-suc, take_all, get_or-set_same, get_or-set_other}
-use borrow.Author.Tests.{ltb-true, ltb-false, eqb-true, eqb-false, ne_eqb}
+use borrow.Author.Tests.{lt-ltb, ltb-true, ltb-false, eqb-true, eqb-false, ne_eqb}
 use Rattle.lists.specs.Lists.{any}
 use Rattle.lists.specs.Numbers.{first}
 use Rattle.std.proofs.lemmas.Bool.{true≢false}
 use Rattle.lists.proofs.Bools.{both}
+use Rattle.lists.proofs.Keeps.{any-find}
 use Rattle.lists.proofs.Library.{find_some, find_none}
 use Rattle.lists.proofs.Numbers.{first_none}
 use Rattle.slots.specs.Slots.{class_of, allows, is_open}
 use Rattle.slots.specs.declared.Facts.{Facts}
-use Rattle.rows.specs.Rows.{in_use, has_address, holds_address, has_identity, row_at, no_row}
+use Rattle.rows.specs.Rows.{holds_identity, place_of_identity, in_use, has_address, holds_address, has_identity, row_at, no_row}
 use Rattle.rows.specs.declared.Row.{Row}
 use Rattle.free.specs.Free.{is_free, lowest_free, address_for, full, no_free_address, no_ticket_left, can_assign}
 
@@ -40,11 +41,20 @@ module _ (f : Facts) (rows : List Row) where
   pub none_free : 0 ≡ lowest_free f rows → true ≡ no_free_address f rows
   none_free e = rw (← lowest_none f rows, ← e)
 
+-- an identity is held where it has a place, and is offered the address of the row there
+pub held_place : (rows : List Row) (id : ℕ) → length rows ≡ 32 → holds_identity id rows ≡ ltb (place_of_identity id rows) 32
+held_place rows id long = rw (any-find (has_identity id) rows, long)
+
+module _ (f : Facts) (rows : List Row) (id place : ℕ) (e : place ≡ place_of_identity id rows) (long : length rows ≡ 32) where
+  pub address_known : place < 32 → (row_at rows place).address ≡ address_for f rows id
+  unfolding address_for
+  address_known h = rw (held_place rows id long, ← e, lt-ltb place 32 h)
+
 -- the ways to an identity's address
 module _ (f : Facts) (rows : List Row) (id : ℕ) where
-  pub address_known : {row : Row} → Some row ≡ find (has_identity id) rows → row.address ≡ address_for f rows id
+  pub address_found : {row : Row} → Some row ≡ find (has_identity id) rows → row.address ≡ address_for f rows id
   unfolding address_for
-  address_known h = let e = find_some (has_identity id) no_row rows h in rw (e.0, e.1)
+  address_found h = let e = find_some (has_identity id) no_row rows h in rw (e.0, e.1)
 
   pub address_new : None ≡ find (has_identity id) rows → (a : ℕ) → a ≡ lowest_free f rows → a ≡ address_for f rows id
   unfolding address_for
