@@ -1,4 +1,5 @@
-// A list that has its places from the start, since no crate here takes memory while it runs.
+// A list that has its places from the start, since no crate here takes memory while it runs. A script can look at what stands behind the values, so that
+// all places can be read (not so those of the library's `ArrayVec`).
 ghost use Rattle.std.specs.Prelude.{◌≡◌, ◌≤◌, ◌<◌, ◌∷◌, ◌++◌, [], length, take, min};
 
 // Up to N values, in the first `count` places. Two lists are the same only if the places behind are, too.

@@ -38,13 +38,16 @@ pub fn line_end(text: &[u8], from: usize) -> usize
 // The lines of a text, one after the other: the text, and where the next one begins.
 #[derive(Drop)]
 pub struct Lines<'a> {
-    text: &'a [u8],
-    from: usize,
+    pub text: &'a [u8],
+    pub from: usize,
 }
 
 impl<'a> Lines<'a> {
     // All of them.
-    pub fn new(text: &'a [u8]) -> Lines<'a> {
+    pub fn new(text: &'a [u8]) -> Lines<'a>
+        ensures text { result.text.now ≡ text.now }
+        ensures from { result.from ≡ 0 }
+    {
         Lines { text, from: 0 }
     }
 }

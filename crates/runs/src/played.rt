@@ -7,7 +7,7 @@ use lines::cells::{BLANK_CELL, blank_from};
 use lines::numbers::{Numbers, at_most, byte, ticket};
 use lines::stage::Stage;
 
-// `play`. Refusal, count, ending, rounds, clocks. Machine, boards and cells are then the run's.
+// `play`. Machine, boards and cells are then the run's.
 pub fn play(setup: &mut Setup) -> Came {
     let mut cells = [BLANK_CELL; 1100];
     let owned = lent::run_owned(
@@ -27,6 +27,7 @@ pub fn play(setup: &mut Setup) -> Came {
     came
 }
 
+// Refusal, count, ending, rounds, clocks.
 fn numbers_of(report: &Report) -> Numbers {
     Numbers::one(report.refusal.into())
         .with(report.count as u64)
