@@ -137,7 +137,7 @@ pub fn size(number: u64) -> usize {
     number.min(65535) as usize
 }
 
-// A size, or the most that it may be.
+// A size, or the most that it may be. (Kept beside `min`: wrong answers are tried of this promise, `text_wrong` and `text_wrong_again`.)
 pub fn at_most(size: usize, most: usize) -> usize
     ensures { result ≤ most }
 {
