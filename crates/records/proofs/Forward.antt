@@ -9,8 +9,9 @@ use native.Mathlib.Omega.{arith}
 use lib.Count.{ones_in}
 use lib.Dec.{eqb, leb}
 use lib.ListN.{length, get_or, take, drop, length-take, length-drop}
-use lib.Seq.{get_or-take, take-take, take-add, take-nil}
+use lib.Seq.{get_or-take, take-take, take-add}
 use borrow.Author.Tests.{eqb-true, leb-true, le-leb, not-true}
+use Rattle.std.proofs.lemmas.List.{drop-take}
 use Rattle.lists.specs.Numbers.{numbers}
 use Rattle.lists.proofs.Keeps.{all_drop}
 use Rattle.lists.proofs.Bools.{both, and, agree}
@@ -34,19 +35,13 @@ use Rattle.records.specs.Records.{ReadsAs}
 
 -- ---- the bytes behind the last offer don't matter
 
--- cut and then dropped is dropped and then cut
-drop_cut : (k n : ℕ) (l : List ℕ) → drop k (take (k + n) l) ≡ take n (drop k l)
-drop_cut zero n l = rw zero-add
-drop_cut (suc k) n [] = ap (drop (suc k)) (take-nil (suc k + n)) ∙ sym (take-nil n)
-drop_cut (suc k) n (x ∷ l) = let e : suc k + n ≡ suc (k + n) = omega arith in rw e (drop_cut k n l)
-
 -- the first offer, and the others, of bytes cut to so many offers
 module _ (n : ℕ) (bytes : List ℕ) where
   first_cut : (k : ℕ) → k < 10 → get_or (take (10 * suc n) bytes) k 0 ≡ get_or bytes k 0
   first_cut k h = get_or-take (10 * suc n) bytes k 0 (omega arith)
 
   others_cut : drop 10 (take (10 * suc n) bytes) ≡ take (10 * n) (drop 10 bytes)
-  others_cut = let e : 10 * suc n ≡ 10 + 10 * n = omega arith in rw e (drop_cut 10 (10 * n) bytes)
+  others_cut = let e : 10 * suc n ≡ 10 + 10 * n = omega arith in rw e (drop-take 10 (10 * n) bytes)
 
   offer_cut : offer_cells (take (10 * suc n) bytes) ≡ offer_cells bytes
   unfolding offer_cells

@@ -3,3 +3,4 @@ pub mod Inverse
 pub mod Trips
 pub mod Place
 pub mod Answers
+pub mod Results
