@@ -42,7 +42,7 @@ fn static_held(rows: &[Row; 32], address: u8) -> bool
 fn assign_refusal(t: &Table) -> Result<(), Refusal>
     ensures { refusal_of result ≡ assign_refusal t.now.facts t.now.rows }
 {
-    if free::full(t) {
+    if free::full(&t.rows) {
         return Err(Refusal::Full);
     }
     if free::no_free_address(t) {
@@ -84,7 +84,7 @@ fn set_refusal(t: &Table, from: u8, new: u8) -> Result<(), Refusal>
     if set_held(&t.rows, from, new) {
         return Err(Refusal::Held);
     }
-    if free::full(t) {
+    if free::full(&t.rows) {
         return Err(Refusal::Full);
     }
     if free::no_ticket_left(t) {
@@ -147,7 +147,7 @@ fn can_set(t: &Table, from: u8, new: u8) -> bool
     table::static_allowed(t.facts, from)
         & !static_held(&t.rows, from)
         & free::is_free(t, new)
-        & !free::full(t)
+        & !free::full(&t.rows)
         & !free::no_ticket_left(t)
 }
 

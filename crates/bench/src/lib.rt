@@ -60,7 +60,7 @@ fn clocks(cells: &[u16]) -> usize
 
 // One run over the first `count` boards, from Begin until idle; the places behind them are not looked at, and stay. Each offer uses the next flip: 0 to 7
 // for the bit of the address byte that the boards see the other way, 8 or the end of the list for none. The record is written from the first of at least
-// 1,024 cells on.
+// 1,024 cells on. (Boards by value with a count beside them: document 01 names the form, boards first as an array by value.)
 pub fn run(
     machine: Machine,
     boards: [Board; 32],

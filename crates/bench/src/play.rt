@@ -36,7 +36,7 @@ fn ending(accepted: bool, m: &Machine) -> u8
     if !accepted {
         return TWO_REFUSALS;
     }
-    if free::full(&m.table) {
+    if free::full(&m.table.rows) {
         return ROWS_FULL;
     }
     if free::no_free_address(&m.table) {

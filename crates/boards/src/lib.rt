@@ -43,7 +43,7 @@ pub struct Heard {
     pub still: [bool; 32],
 }
 
-// Who is in a round: of the first `count` boards those without an address.
+// Who is in a round: of the first `count` boards those without an address. (A count and marks beside 32 places: document 01 has boards by value.)
 pub fn waiting(boards: &[Board; 32], count: usize) -> [bool; 32]
     ensures { result ≡ waiting_first count boards.now }
 {

@@ -60,10 +60,10 @@ pub fn address_for(t: &Table, identity: u64) -> u8
 }
 
 // Whether there are 32 rows.
-pub fn full(t: &Table) -> bool
-    ensures { result ≡ full t.now.rows }
+pub fn full(rows: &[Row; 32]) -> bool
+    ensures { result ≡ full rows.now }
 {
-    !(rows::used_rows(&t.rows) < 32)
+    !(rows::used_rows(rows) < 32)
 }
 
 // Whether no address is free.
@@ -84,7 +84,7 @@ pub fn no_ticket_left(t: &Table) -> bool
 pub fn can_assign(t: &Table) -> bool
     ensures { result ≡ can_assign t.now.facts t.now.rows }
 {
-    if full(t) {
+    if full(&t.rows) {
         return false;
     }
     if no_ticket_left(t) {

@@ -71,7 +71,8 @@ pub struct Owned {
 }
 
 // The same for a caller with boards by value, who then lends nothing but flips and cells: the first `count` of its 40 places are lent for it, all 40 if
-// `count` is more. Those behind are not looked at, and stay. A run takes 32; the other places are there so that too many can be lent, and refused.
+// `count` is more. Those behind are not looked at, and stay. A run takes 32; the other places are there so that too many can be lent, and refused:
+// hence 40 places with a count, in fixed memory.
 pub fn run_owned(
     machine: Machine,
     mut boards: [Board; 40],

@@ -24,7 +24,7 @@ impl<'a> Group<'a> {
     }
 
     // The next line is played.
-    pub fn next_line(&mut self) {
+    pub(crate) fn next_line(&mut self) {
         self.number = self.number.saturating_add(1);
     }
 

@@ -9,7 +9,7 @@ use std::io::Write;
 // How much is played of a script: a call that does not end within it is a bad one.
 pub const MOST_BYTES: usize = 262144;
 
-// Plays the calls of a script, and writes what each comes to.
+// Plays the calls of a script, and writes what each comes to. (A `while`: each turn goes on by as many bytes as its call has, which no range says.)
 pub fn play(out: &mut impl Write, script: &[u8]) -> io::Result<()> {
     let mut machine = calls::first_machine();
     let mut given = Given::new(script);

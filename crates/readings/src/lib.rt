@@ -36,7 +36,8 @@ pub enum Command {
 #[derive(Clone, Copy, Debug, PartialEq, Eq)]
 pub struct NumberUnknown(pub u8);
 
-// What a command doesn't use is 0 (false).
+// What a command doesn't use is 0 (false). (Kept as numbers and marks: document 01 gives a reading these fields, a hand-made one may have any of them,
+// and the layouts and their theorems go by them.)
 #[derive(Clone, Copy, Debug, PartialEq, Eq)]
 pub struct Reading {
     pub joining: Joining,

@@ -40,17 +40,24 @@ fn allows(flags: u8, class: u8) -> bool
         | ((class == CLOSED_BY_FLAG_1) & (flags % 2 != 1))
 }
 
+// Whether an address is in a legacy set.
+pub fn is_legacy(legacy: &[u8; 16], address: u8) -> bool
+    ensures { result ≡ is_legacy legacy.now address }
+{
+    if address < 128 {
+        let byte = legacy[(address / 8) as usize];
+        (byte >> (address % 8)) % 2 == 1
+    } else {
+        false
+    }
+}
+
 impl Facts {
     // Whether an address is in the legacy set.
     pub fn is_legacy(self, address: u8) -> bool
         ensures { result ≡ is_legacy self.legacy address }
     {
-        if address < 128 {
-            let byte = self.legacy[(address / 8) as usize];
-            (byte >> (address % 8)) % 2 == 1
-        } else {
-            false
-        }
+        is_legacy(&self.legacy, address)
     }
 
     // Whether the set has legacy addresses from 08h to 77h only: none below, in byte 0, and none above, in byte 15.

@@ -43,7 +43,7 @@ pub fn never_open(flags: u8) -> bool {
     !near.iter().any(|address| open(flags, *address))
 }
 
-// How many bytes from first to last pass a test.
+// How many bytes from first to last pass a test. (No chain: of a count of a filtered range the check knows no bound that fits 32 bits.)
 pub fn passing<F: Fn(u8) -> bool>(first: u8, last: u8, test: F) -> u32
     requires { F.IsAlwaysCallable test }
 {
