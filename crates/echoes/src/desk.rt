@@ -8,7 +8,8 @@ use lines::shapes::Shape;
 use lines::stage::Stage;
 use lines::words::Line;
 
-// The record. Of the bytes the reader is lent `room` and the writer `span`; of its own cells the writer is lent `lent`.
+// The record. Of the bytes the reader is lent `room` and the writer `span`; of its own cells the writer is lent `lent`: a script
+// says how much of fixed memory a call is lent.
 #[derive(Drop)]
 pub struct Desk {
     pub record: List<u16, 1100>,

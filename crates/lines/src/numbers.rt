@@ -35,7 +35,7 @@ impl Numbers {
         self
     }
 
-    // The number at a place, 0 where there is none.
+    // The number at a place, 0 where there is none. (No Option: a line is played only if its shape has seen that it is there.)
     pub fn at(&self, place: usize) -> u64
         ensures { result ≡ unwrap_or (slice_get self.now.places place) 0 }
     {
@@ -110,7 +110,8 @@ fn digit(byte: u8) -> Option<u64> {
     }
 }
 
-// ---- the numbers of a line as the calls take them, each in range: `fits` has seen to it
+// ---- the numbers of a line as the calls take them, each in range: the shape of its line has seen to it. (A name for each kind of
+// number: one generic function would leave the type and the number out of range to every call.)
 
 // A number as a byte.
 pub fn byte(number: u64) -> u8 {

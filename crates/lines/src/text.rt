@@ -24,7 +24,8 @@ pub fn read<R: Read>(input: &mut R, out: &mut impl Write, text: &mut [u8]) -> io
     Ok(n)
 }
 
-// Where the line that begins at a place ends: at the next line feed, or with the text.
+// Where the line that begins at a place ends: at the next line feed, or with the text. (No `split`: wrong answers are tried of this promise,
+// `text_wrong` and `text_wrong_again`.)
 pub fn line_end(text: &[u8], from: usize) -> usize
     ensures { (result ≤ length text.now) × (from ≤ length text.now → from ≤ result) }
 {

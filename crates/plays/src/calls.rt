@@ -8,7 +8,7 @@ use lines::stage::Stage;
 use looks::by_hand;
 use machine::{Machine, Stepped};
 
-// The machine, and how many cells its calls are lent.
+// The machine, and how many cells its calls are lent: a script says how much of fixed memory.
 #[derive(Drop)]
 pub struct Bus {
     machine: Machine,
@@ -105,7 +105,8 @@ impl Bus {
         })
     }
 
-    // `cards FIRST LAST`. It comes to the last refusal of any call, 0 if there was none.
+    // `cards FIRST LAST`. It comes to the last refusal of any call, 0 if there was none. (A number, as
+    // `Stepped` has it.)
     fn cards(&mut self, first: u64, last: u64) -> Came {
         let mut refusal = 0;
         for identity in first..=last {

@@ -16,7 +16,8 @@ pub const MOST_CELLS: usize = 1100;
 // The most boards of a run.
 pub const MOST_BOARDS: usize = 40;
 
-// A call with its numbers. The cells of a record and the boards of a run are bytes still: two for a cell, nine for a board.
+// A call with its numbers. The cells of a record and the boards of a run are bytes still: two for a cell, nine for a board. How much
+// of fixed memory a call is lent (`lent`), a script says.
 #[derive(Clone, Copy)]
 pub enum Call<'a> {
     Start {
@@ -194,6 +195,8 @@ impl<'a> Given<'a> {
     fn identity(&mut self) -> Option<u64> {
         Some(u64::from_be_bytes(self.bytes()?))
     }
+
+    // (A function for each kind of count and list: they differ in the width of the count and in how many are too many.)
 
     // A count of one byte.
     fn small_count(&mut self) -> Option<usize>

@@ -28,7 +28,8 @@ fn rounds_at(joining: Joining) -> usize
     }
 }
 
-// The ten bytes of the offer whose round header stands at `from`, into the buffer from `at` on.
+// The ten bytes of the offer whose round header stands at `from`, into the buffer from `at` on. (Places, and no parts cut off: a cell past the end is
+// read too, as one that leads nowhere, so that the bytes of any cells are defined.)
 fn put_one(cells: &[u16], from: usize, at: usize, buffer: &mut [u8])
     requires { (from + 9 < 2 ^ 64) × (at + 10 ≤ length buffer.old) }
     ensures { buffer.new ≡ lay_at at (ten_of (drop from cells.now)) buffer.old }

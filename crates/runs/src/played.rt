@@ -64,7 +64,7 @@ fn same_boards(before: &[Board; 40], after: &[Board; 40], first: usize) -> bool 
         && (i < first || b.address == a.address))
 }
 
-// `start FLAGS LAST LEGACY..`. All but the machine is as in a new group.
+// `start FLAGS LAST LEGACY..`. All but the machine is as in a new group (so it is not that of `plays`).
 pub fn start(setup: &mut Setup, given: &Numbers) -> Came {
     let legacy = given.bytes_from(2);
     let done = machine::start(byte(given.at(0)), &legacy.places[..16], ticket(given.at(1)));

@@ -13,7 +13,7 @@ use looks::by_hand;
 use machine::Machine;
 
 // The machine; 40 boards, of which a run is lent the first `count`, a number that may be too high for them; the flips; and how many of 1,100 cells
-// it is lent.
+// it is lent: a script says how much of fixed memory.
 #[derive(Drop)]
 pub struct Setup {
     pub machine: Machine,

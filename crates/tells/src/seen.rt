@@ -46,11 +46,11 @@ impl fmt::Display for Rows<'_> {
     fn fmt<W: fmt::Write>(&self, f: &mut fmt::Formatter<W>) -> fmt::Result {
         let rows = self.0;
         write!(f, "rows")?;
-        for row in rows.iter().filter(|row| row.address != 0) {
+        for row in rows.iter().filter(|row| row.in_use()) {
             write!(f, " {}:{}:{}", row.address, row.ticket, row.unknown as u8)?;
             write!(f, ":{:016X}:{}", row.identity, row.from_static)?;
         }
-        if rows.iter().any(|row| (row.address == 0) & (*row != NO_ROW)) {
+        if rows.iter().any(|row| !row.in_use() & (*row != NO_ROW)) {
             write!(f, " dirty")?;
         }
         Ok(())

@@ -12,7 +12,7 @@ use readings::{Command, Reading};
 // A 93rd offer would take the record past 1,024 cells.
 const MOST_OFFERS: usize = 92;
 
-// Nothing but joining and command.
+// Nothing but joining and command. (Field by field, as its definition says it: the comparison with a bare reading would make one first.)
 fn is_bare(r: &Reading) -> bool
     ensures { result ≡ is_bare r.now }
 {

@@ -12,5 +12,5 @@ loop-i-preserved c = search offered_turn
 pub returns : goal.returns
 returns c =
     let a = c.args in
-    let both = offered_ended a.bytes.now a.cells.now a.at a.count (omega arith) c.loop-i.invariant (omega arith) (omega arith) in
+    let both = offered_ended a.bytes.now a.cells.now a.count (omega arith) c.loop-i.invariant (omega arith) (omega arith) in
     record { value = both.0; cells_after = both.1 }

@@ -10,8 +10,8 @@ pub returns-in-None : goal.returns-in-None
 returns-in-None c =
     let a = c.args in
     let r = a.r.now in
-    let parts = puts_on 0 (512 ∷ []) (command_cells r.command r a.bytes.now) a.cells.now (omega arith)
-    (c.put-at.ensures.value, c.put-at.ensures.cells_after) (c.command.ensures.value, c.command.ensures.cells_after) in
+    let parts = puts_on (512 ∷ []) (command_cells r.command r a.bytes.now) a.cells.now (omega arith)
+    (c.put-n.ensures.value, c.put-n.ensures.cells_after) c.command.ensures.value c.command.ensures.cells_after in
     let both = puts_joined r a.bytes.now c.in-None.is refl a.cells.now parts in
     record { value = both.0; cells_after = both.1 }
 
@@ -25,8 +25,8 @@ pub returns-in-Answered : goal.returns-in-Answered
 returns-in-Answered c =
     let a = c.args in
     let r = a.r.now in
-    let parts = puts_on 0 (512 ∷ 8 ∷ 513 ∷ []) (command_cells r.command r a.bytes.now) a.cells.now (omega arith)
-    (c.put-at-in-Answered.ensures.value, c.put-at-in-Answered.ensures.cells_after)
-    (c.command-in-Answered.ensures.value, c.command-in-Answered.ensures.cells_after) in
+    let parts = puts_on (512 ∷ 8 ∷ 513 ∷ []) (command_cells r.command r a.bytes.now) a.cells.now (omega arith)
+    (c.put-n-in-Answered.ensures.value, c.put-n-in-Answered.ensures.cells_after)
+    c.command-in-Answered.ensures.value c.command-in-Answered.ensures.cells_after in
     let both = puts_joined r a.bytes.now c.in-Answered.is refl a.cells.now parts in
     record { value = both.0; cells_after = both.1 }
