@@ -72,6 +72,9 @@ module _ (m : Machine) (boards : List Board) (count : ℕ) (flips buffer : List 
         let p = plain m (take count boards) flips in
         ap (take kept.at) by_rule.cells ∙ take_at p.cells (drop (length p.cells) buffer) kept.at (sym by_rule.at)
 
+    pub run_long : kept.at ≡ length (take kept.at stand)
+    run_long = by_rule.at ∙ ap length (sym run_cells)
+
     pub run_short : length (take kept.at stand) ≤ 1024
     run_short = subst (λ (l : List ℕ). length l ≤ 1024) (sym run_cells) (short m (take count boards) flips)
 

@@ -4,6 +4,7 @@ pub mod Rounds
 pub mod Same
 pub mod Counts
 pub mod Ends
+pub mod Places
 pub mod Keeping
 pub mod Playing
 pub mod Refused

@@ -5,8 +5,8 @@ use mathlib.Core.Bool.{Bool, true, false, cond}
 use mathlib.Core.List.{List, [], append-nil}
 use native.Mathlib.Omega.{arith}
 use lib.Dec.{eqb, ltb}
-use lib.ListN.{length, take, drop, replicate, take-append-drop}
-use lib.Seq.{length-take-le, take_all, drop-length, take_at}
+use lib.ListN.{length, take, drop, replicate, length-take, take-append-drop}
+use lib.Seq.{length-take-le, take_all, drop-length, take_at, take-append_seam, drop-append_seam}
 use borrow.Author.Tests.{ltb-false, eqb-true}
 use Rattle.lists.specs.Buffers.{lay}
 use Rattle.lists.proofs.Bools.{cond_by}
@@ -19,6 +19,19 @@ use Rattle.bench.proofs.Counts.{plain_long}
 use Rattle.bench.proofs.Benched.{allowed}
 use Rattle.lent.specs.Runs.{lent_refusal, lent_run, lent_cells, reported}
 use Rattle.lent.specs.Places.{no_board}
+
+-- ---- the caller's own array
+
+module _ {A : Type 0} where
+  -- no more of its places are lent than it has
+  pub owned_front : (n most : ℕ) (xs : List A) → length xs ≡ most → take (min n most) xs ≡ take n xs
+  owned_front n most xs e =
+      rw (← e, ← length-take n xs) (ap (take (length (take n xs))) (sym (take-append-drop n xs)) ∙ take-append_seam (take n xs) (drop n xs))
+
+  -- and those behind them stay
+  pub owned_rest : (n most : ℕ) (xs : List A) → length xs ≡ most → drop (min n most) xs ≡ drop n xs
+  owned_rest n most xs e =
+      rw (← e, ← length-take n xs) (ap (drop (length (take n xs))) (sym (take-append-drop n xs)) ∙ drop-append_seam (take n xs) (drop n xs))
 
 -- ---- a list copied into 32 places
 

@@ -4,7 +4,7 @@ use mathlib.Core.Path.{◌≡◌, refl, sym, ap, ◌∙◌}
 use mathlib.Core.Logic.{◌⊎◌, inl, inr, ⊎_elim}
 use mathlib.Core.Bool.{Bool, true, false, cond}
 use mathlib.Core.List.{List, [], ◌∷◌, ◌++◌}
-use native.Mathlib.Nat.{pow-suc}
+use native.Mathlib.Nat.{pow-suc, pow-le-pow_right, zero-lt-suc, zero-add, suc-add}
 use native.Mathlib.Numerals.{add-one, sub-one}
 use native.Mathlib.Omega.{arith}
 use lib.Dec.{ltb}
@@ -12,7 +12,16 @@ use lib.ListN.{length, get_or, length-append}
 use borrow.Author.Tests.{lt-ltb, le-ltb, ltb-true, ltb-false}
 use Rattle.std.proofs.lemmas.Fmt.{AppendsLastDigit, decimal_from_appends, length-decimal-le}
 use Rattle.std.specs.Fmt as library
+use Rattle.lists.specs.Buffers.{lay_at}
+use Rattle.lists.proofs.Buffers.{lay_at_on}
 use Rattle.listing.specs.Text.{digit, hex, decimal}
+
+-- ---- digits
+
+-- a digit behind the n that were just put
+behind : (at n : ℕ) (x buffer : List ℕ) (d : ℕ) → length x ≡ n → at + n ≤ length buffer → {last : ℕ} {between after : List ℕ}
+    → last ≡ at + n → between ≡ lay_at at x buffer → after ≡ lay_at last (d ∷ []) between → after ≡ lay_at at (x ++ (d ∷ [])) buffer
+behind at n x buffer d l h p q r = rw (r, p, q, ← l) (lay_at_on at x (d ∷ []) buffer (omega arith))
 
 -- ---- hex digits
 
@@ -71,6 +80,22 @@ tenth_some : (k n : ℕ) → n < 10 ^ suc k → 10 ≤ n → 0 < k
 tenth_some zero n h s = omega arith
 tenth_some (suc k) n h s = omega arith
 
+-- one more digit allowed changes nothing
+pub decimal_more : (k n : ℕ) → n < 10 ^ k → 0 < k → decimal (suc k) n ≡ decimal k n
+decimal_more zero n h p = absurd (omega arith)
+decimal_more (suc k) n h p =
+    ⊎_elim
+    (λ s. decimal_one (suc k) n s ∙ sym (decimal_one k n s))
+    (λ s. rw (decimal_last (suc k) n s, decimal_last k n s, decimal_more k (n / 10) (tenth k n h) (tenth_some k n h s)))
+    (one_or_more n)
+
+-- nor do any more
+pub decimal_fits : (j k n : ℕ) → n < 10 ^ k → 0 < k → decimal (j + k) n ≡ decimal k n
+decimal_fits zero k n h p = rw zero-add
+decimal_fits (suc j) k n h p =
+    let l : 10 ^ k ≤ 10 ^ (j + k) = pow-le-pow_right (zero-lt-suc 9) (omega arith) in
+    rw suc-add (decimal_more (j + k) n (omega arith) (omega arith) ∙ decimal_fits j k n h p)
+
 -- they are the library's, where so many are enough
 digit_code : (n : ℕ) → n < 10 → digit n ≡ 48 + n
 digit_code n h = rw (lt-ltb n 10 h)
@@ -86,8 +111,28 @@ printed n h = sym (decimal_from_appends decimal appends 20 n h (length-decimal-l
 
 -- a ticket is a number of 32 bits
 pub ticket_digits : (n : ℕ) → n < 4294967296 → decimal 20 n ≡ decimal 10 n
-ticket_digits n h =
-    sym (printed n (omega arith)) ∙ sym (decimal_from_appends decimal appends 10 n (omega arith) (length-decimal-le 10 n (omega arith) (omega arith) (omega arith)))
+ticket_digits n h = decimal_fits 10 10 n (omega arith) (omega arith)
+
+-- ---- a number of 64 bits in decimal
+
+-- its tenth, and then its last digit
+decimal_tenth : (n : ℕ) → 10 ≤ n → n < 18446744073709551616 → decimal 20 n ≡ decimal 20 (n / 10) ++ (digit (n % 10) ∷ [])
+decimal_tenth n h b = decimal_last 19 n h ∙ rw (decimal_more 19 (n / 10) (omega arith) (omega arith))
+
+-- one digit, or one more than its tenth has
+pub decimal_length_one : (n : ℕ) → n < 10 → length (decimal 20 n) ≡ 1
+decimal_length_one n h = rw (decimal_one 19 n h)
+
+pub decimal-length : (n : ℕ) → 10 ≤ n → n < 18446744073709551616 → length (decimal 20 n) ≡ length (decimal 20 (n / 10)) + 1
+decimal-length n h b = rw (decimal_tenth n h b) (length-append (decimal 20 (n / 10)) (digit (n % 10) ∷ []))
+
+-- the last digit behind those of its tenth
+pub decimal_behind : (at n : ℕ) (buffer : List ℕ) → at + length (decimal 20 n) ≤ length buffer → 10 ≤ n → n < 18446744073709551616
+    → {last : ℕ} {between after : List ℕ} → last ≡ at + length (decimal 20 (n / 10)) → between ≡ lay_at at (decimal 20 (n / 10)) buffer
+    → after ≡ lay_at last (digit (n % 10) ∷ []) between → after ≡ lay_at at (decimal 20 n) buffer
+decimal_behind at n buffer h t b p q r =
+    let x : List ℕ = decimal 20 (n / 10) in
+    rw (decimal_tenth n t b) (behind at (length x) x buffer (digit (n % 10)) refl (omega (arith, decimal-length n t b)) p q r)
 
 -- ---- digits read back
 

@@ -20,9 +20,9 @@ use Rattle.machine.specs.declared.Machine.{Machine}
 use Rattle.machine.specs.declared.Moment.{Moment}
 use Rattle.machine.specs.declared.Moment.TheVariants.{Idle, Opened, Round, Listening, Offered, Direct}
 use Rattle.machine.specs.Moments.{machine_right}
-use Rattle.machine.specs.Refusals.{step_refusal, begin_refusal, identity_refusal}
+use Rattle.machine.specs.Refusals.{step_refusal, begin_refusal, join_refusal, identity_refusal, give_up_refusal}
 use Rattle.machine.specs.Steps.{Step, refuse, beginning, joining, round_rule, commanded, opened_answer, round_answer, listened, accepted, declined, direct_answer, answer_at}
-use Rattle.machine.specs.Calls.{unless, begun, answered, identified, stepped, ComesTo}
+use Rattle.machine.specs.Calls.{unless, begun, answered, identified, given_up, joined, stepped, ComesTo}
 
 -- ---- room
 
@@ -84,7 +84,7 @@ answer_short Offered m false = omega arith
 answer_short Direct m true = omega arith
 answer_short Direct m false = omega arith
 
--- ---- so the cells of these calls fit
+-- ---- so the cells of each call fit
 
 module _ (m : Machine) (room : ℕ) where
   pub begun_fits : (choice static new ticket : ℕ) → Fits room (begun m choice static new ticket room)
@@ -98,6 +98,14 @@ module _ (m : Machine) (room : ℕ) where
   pub identified_fits : (bytes : List ℕ) → Fits room (identified m bytes room)
   unfolding identified identity_refusal listened
   identified_fits bytes = fits room m _ _ (λ e. omega (arith, length-map bytes identity_cell, eight_bytes m (length bytes) e))
+
+  pub given_up_fits : Fits room (given_up m room)
+  unfolding given_up give_up_refusal
+  given_up_fits = fits room m _ _ (λ _. omega arith)
+
+  pub joined_fits : (choice : ℕ) → Fits room (joined m choice room)
+  unfolding joined join_refusal
+  joined_fits choice = fits room m _ _ (λ _. joining_short m choice)
 
 -- ---- the eight in front of the lent cells
 
