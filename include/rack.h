@@ -7,8 +7,7 @@
  * Nothing proves the declarations: they are to be compared with the source,
  * crates/rack/src/lib.rt. The library is crates/rack/out/librack.a, for x86-64
  * and the System V calling convention. It keeps no state and needs no heap; of a
- * C library it needs memcpy and memset. A sheet run took some 37 KB of stack when
- * that was last measured, with an older compiler.
+ * C library it needs memcpy and memset. A sheet run takes some 44 KB of stack.
  *
  * Each function gives one 32-bit number, the refusal times 65,536 plus the
  * value; a refused call has the value 0. The wrappers take the two apart.

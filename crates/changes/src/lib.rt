@@ -53,7 +53,9 @@ pub fn without(rows: &[Row; 32], place: usize) -> [Row; 32]
     out
 }
 
-// No rows: each of these goes.
+// No rows: each of these goes. (Not laid into its callers: with an empty table as one constant in one of the machine's branches, the compiler takes the
+// whole machine apart into single numbers in all of them.)
+#[inline(never)]
 pub fn emptied(rows: &[Row; 32]) -> [Row; 32]
     ensures { result ≡ replicate 32 no_row }
 {
