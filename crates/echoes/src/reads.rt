@@ -94,18 +94,15 @@ pub fn off(desk: &Desk) -> Came {
     Came::seen(Numbers::one(many as u64))
 }
 
-// Whether a number can stand at this place, behind the cells up to it.
-fn stands(cells: &[u16; 1100], place: usize, number: u16) -> bool {
-    let mut cells = *cells;
-    let last = at_most(place, 1099);
-    cells[last] = number;
-    !breaks(&cells[..last + 1], last, &mut [BLANK_BYTE; 1000])
-}
-
 // `fits PLACE`. The place, and how many of the 65,536 numbers can stand there, behind the record's cells up to it.
 pub fn fits(desk: &Desk, place: usize) -> Came {
+    let mut cells = desk.record.places;
+    let last = at_most(place, 1099);
     let many = (0..=u16::MAX)
-        .filter(|number| stands(&desk.record.places, place, *number))
+        .filter(|number| {
+            cells[last] = *number;
+            !breaks(&cells[..last + 1], last, &mut [BLANK_BYTE; 1000])
+        })
         .count();
     Came::seen(Numbers::one(place as u64).with(many as u64))
 }
