@@ -5,7 +5,7 @@ use crate::numbers::Numbers;
 use std::fmt;
 
 // The numbers to compare with what the script says, and what else is wrong with the step, if anything is.
-#[derive(Debug, PartialEq, Eq, Drop)]
+#[derive(Clone, Copy, Debug, PartialEq, Eq)]
 pub struct Came {
     pub numbers: Numbers,
     pub flaw: Option<Flaw>,

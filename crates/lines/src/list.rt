@@ -1,13 +1,27 @@
 // A list that has its places from the start, since no crate here takes memory while it runs. A script can look at what stands behind the values, so that
 // all places can be read (not so those of the library's `ArrayVec`).
-ghost use Rattle.std.specs.Prelude.{◌≡◌, ◌≤◌, ◌<◌, ◌∷◌, ◌++◌, [], length, take, min};
+ghost use Rattle.std.specs.Prelude.{◌≡◌, ◌≤◌, ◌<◌, ◌∷◌, ◌++◌, [], length, take, min, ⊤};
+
+use std::alloc::AllocError;
 
 // Up to N values, in the first `count` places. Two lists are the same only if the places behind are, too.
-#[derive(Debug, PartialEq, Eq, Drop)]
+#[derive(Debug, PartialEq, Eq)]
 pub struct List<T, const N: usize> {
     pub places: [T; N],
     pub count: usize,
     ghost in_places: { count ≤ N },
+}
+
+impl<T: Copy, const N: usize> Copy for List<T, N> {}
+
+impl<T: Copy, const N: usize> Clone for List<T, N> {
+    ghost is_clone = { λ x y. y ≡ x };
+
+    ghost is_infallible = { λ _. ⊤ };
+
+    fn clone(&self) -> Result<List<T, N>, AllocError> {
+        Ok(*self)
+    }
 }
 
 impl<T: Copy, const N: usize> List<T, N> {

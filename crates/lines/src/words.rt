@@ -4,7 +4,7 @@ use crate::numbers::Numbers;
 
 // A line: the first letter of its first word, if it has one; the numbers before the sign `=`, and those behind it, if it has the sign. It is right if
 // each of its other words is a number, and there is no second sign. (A mark, and no error: a line that begins a group is not right, and has its letter.)
-#[derive(Debug, PartialEq, Eq, Drop)]
+#[derive(Clone, Copy, Debug, PartialEq, Eq)]
 pub struct Line {
     pub letter: Option<u8>,
     pub given: Numbers,
