@@ -31,8 +31,10 @@ impl fmt::Display for Seen<'_> {
         )?;
         write!(
             f,
-            " identity {:016X} offered {} refusals {}",
-            m.identity, m.offered, m.refusals
+            " identity {} offered {} refusals {}",
+            Hex(&m.identity.to_be_bytes()),
+            m.offered,
+            m.refusals
         )?;
         write!(f, " {}", Rows(&m.table.rows))
     }
@@ -48,7 +50,8 @@ impl fmt::Display for Rows<'_> {
         write!(f, "rows")?;
         for row in rows.iter().filter(|row| row.in_use()) {
             write!(f, " {}:{}:{}", row.address, row.ticket, row.unknown as u8)?;
-            write!(f, ":{:016X}:{}", row.identity, row.from_static)?;
+            let identity = row.identity.to_be_bytes();
+            write!(f, ":{}:{}", Hex(&identity), row.from_static)?;
         }
         if rows.iter().any(|row| !row.in_use() & (*row != NO_ROW)) {
             write!(f, " dirty")?;
@@ -65,7 +68,8 @@ impl fmt::Display for Boards<'_> {
     fn fmt<W: fmt::Write>(&self, f: &mut fmt::Formatter<W>) -> fmt::Result {
         write!(f, "boards")?;
         for board in self.0 {
-            write!(f, " {:016X}:{}", board.identity, board.address)?;
+            let identity = board.identity.to_be_bytes();
+            write!(f, " {}:{}", Hex(&identity), board.address)?;
         }
         Ok(())
     }
