@@ -81,6 +81,8 @@ impl<'a> Sheet<'a> {
     }
 
     // The machine that is started on the facts: a byte of flags, the 16 of the legacy set, the 4 of the last ticket. Refused 1 if they break a rule.
+    // (Not laid into its caller, nor is `play`: a refused sheet would pay for the room of what they hand back.)
+    #[inline(never)]
     pub fn start(self) -> Result<Machine, Refusal>
         ensures refusal { refusal_of result ≡ (started (facts_in self.entry.bytes.now)).refusal }
         ensures machine { IfOk result (λ machine. machine ≡ machine_for self.entry.bytes.now) }
@@ -95,6 +97,7 @@ impl<'a> Sheet<'a> {
     }
 
     // One run with the boards and the flips. Refused as the bench refuses it.
+    #[inline(never)]
     pub fn play(self, machine: Machine) -> Result<Report, Refusal>
         ensures refusal { refusal_of result ≡ lent_refusal machine (boards_in self.entry.bytes.now) (flips_in self.entry.bytes.now) 1024 }
         ensures report { IfOk result (λ report. report ≡ reported (lent_run machine (boards_in self.entry.bytes.now) (flips_in self.entry.bytes.now) 1024)) }
