@@ -27,7 +27,7 @@ loop-i-preserved c =
     let right = c.args.self.right in
     rw c.loop-i.invariant
     (placed_turn _ c.loop-i.i _ (omega arith) (omega (arith, boards_few _ right))
-    (board_there _ c.loop-i.i right (omega arith) c.bodies.ensures c.bytes_at.ensures c.from_be_bytes.ensures))
+    (board_there _ c.loop-i.i right (omega arith) c.bodies.ensures c.bytes_at.ensures (omega (arith, c.from_be_bytes.ensures))))
 
 pub returns : goal.returns
 returns c = c.loop-i.invariant ∙ placed_all _ c.loop-i.i (omega arith)

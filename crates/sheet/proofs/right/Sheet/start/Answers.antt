@@ -14,15 +14,15 @@ bytes_at-requires c = (omega arith, rw length-take (omega (arith, bodies_long _ 
 
 pub returns-then-started-ne0-clause-refusal : goal.returns-then-started-ne0-clause-refusal
 returns-then-started-ne0-clause-refusal c =
-    let told = start_told _ c.args.self.right c.bodies.ensures c.bytes_at.ensures c.from_be_bytes-last.ensures c.start-started.ensures in
+    let told = start_told _ c.args.self.right c.bodies.ensures c.bytes_at.ensures (omega (arith, c.from_be_bytes-last.ensures)) c.start-started.ensures in
     start_refused _ told c.if-started-ne0.true
 
 pub returns-clause-refusal : goal.returns-clause-refusal
 returns-clause-refusal c =
-    let told = start_told _ c.args.self.right c.bodies.ensures c.bytes_at.ensures c.from_be_bytes-last.ensures c.start-started.ensures in
+    let told = start_told _ c.args.self.right c.bodies.ensures c.bytes_at.ensures (omega (arith, c.from_be_bytes-last.ensures)) c.start-started.ensures in
     start_taken _ told c.if-started-ne0.false
 
 pub returns-clause-machine : goal.returns-clause-machine
 returns-clause-machine c =
-    let told = start_told _ c.args.self.right c.bodies.ensures c.bytes_at.ensures c.from_be_bytes-last.ensures c.start-started.ensures in
+    let told = start_told _ c.args.self.right c.bodies.ensures c.bytes_at.ensures (omega (arith, c.from_be_bytes-last.ensures)) c.start-started.ensures in
     ap (λ s. s.machine) told
