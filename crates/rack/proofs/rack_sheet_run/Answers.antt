@@ -1,5 +1,5 @@
 -- `rack::rack_sheet_run` meets its contract: a listing's length is at most 1,100, so that the cast keeps it.
-use mathlib.Core.Path.{ap, ◌∙◌}
+use mathlib.Core.Path.{ap}
 use native.Mathlib.Omega.{arith}
 use Rattle.rack.specs.Packed.{sheet_number}
 use Rattle.rack.proofs.Laws.{listing_short}
@@ -18,6 +18,6 @@ returns-in-Ok c =
 pub returns-in-Err : goal.returns-in-Err
 returns-in-Err c =
     record {
-      value = c.refused.ensures ∙ ap sheet_number c.in-Err.ensures.value;
+      value = omega (arith, c.refused.ensures, ap sheet_number c.in-Err.ensures.value);
       listing_after = c.run.ensures.out_after;
     }
